@@ -1,0 +1,4 @@
+pub mod Greedy
+pub mod Rows
+pub mod Running
+pub mod Selection

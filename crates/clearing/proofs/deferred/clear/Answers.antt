@@ -1,0 +1,73 @@
+use native.Mathlib.Omega.{arith}
+use Rattle.matroid.specs.Matroids.{Lawful}
+use Rattle.matroid.proofs.Rounds.{turns-bounded}
+use Rattle.std.proofs.shelf.Tests.{both-ways}
+use Rattle.parts.specs.Limits.{applications}
+use Rattle.clearing.specs.Sides.{side-of}
+use Rattle.clearing.proofs.Rows.{marked-below}
+use Rattle.clearing.proofs.Running.{ends-with, running-ends, running-few, running-first, running-less, running-next}
+use Rattle.clearing.proofs.deferred.clear.Given as given
+use Rattle.clearing.proofs.deferred.clear.Needs as need
+
+-- the two sides keep the laws, since their parts do
+lawful-one : (g : given.Over) (r : g .R1 .Denot) (k : g .K1 .Denot) → Lawful applications (side-of (g .R1·Rule) (g .K1·Ranking) r k)
+lawful-one g r k = record {
+  matroid = g .R1·Rule·met .matroid _ (g .R1·Rule·met .«settings_sound» r);
+  order = g .K1·Ranking·met .order _ (g .K1·Ranking·met .«settings_sound» k);
+}
+
+lawful-two : (g : given.Over) (r : g .R2 .Denot) (k : g .K2 .Denot) → Lawful applications (side-of (g .R2·Rule) (g .K2·Ranking) r k)
+lawful-two g r k = record {
+  matroid = g .R2·Rule·met .matroid _ (g .R2·Rule·met .«settings_sound» r);
+  order = g .K2·Ranking·met .order _ (g .K2·Ranking·met .«settings_sound» k);
+}
+
+pub loop-first-holds : need.loop-first-holds
+loop-first-holds g c = running-first _ _ (c .args .live .now)
+
+pub after-requires : need.after-requires
+after-requires g c κs = omega (
+  arith,
+  running-few _ _ (c .args .live .now) (c .loop-first .struck) (c .loop-first .before)
+      (lawful-one g (c .args .one .now .rule .now) (c .args .one .now .ranking .now))
+      (lawful-two g (c .args .two .now .rule .now) (c .args .two .now .ranking .now)) (c .told-live) (c .loop-first .inv),
+)
+
+pub returns-then-is-last : need.returns-then-is-last
+returns-then-is-last g c =
+    let one = lawful-one g (c .args .one .now .rule .now) (c .args .one .now .ranking .now) in
+    let two = lawful-two g (c .args .two .now .rule .now) (c .args .two .now .ranking .now) in
+    let ended = ends-with _ _ _ _ _ (c .after .result .list) (c .after .ensures .1)
+    (running-ends _ _ (c .args .live .now) (c .loop-first .struck) (c .turn-made .result .struck) (c .loop-first .before) _
+    (c .loop-first .inv) (c .turn-made .ensures _ _ (one .order) (two .order) (c .in-order .ensures) (c .in-order-2 .ensures))
+    (c .after .result .turns) (c .after .ensures .0) (c .is-last .ensures .0 (c .if-is-last .taken))) in
+    record {
+      ends = ended;
+      bounded = turns-bounded applications _ _ one two _ (marked-below (c .args .live .now) (c .told-live)) _ _ ended;
+    }
+
+pub add-before : need.add-before
+add-before g c = omega (
+  arith,
+  running-few _ _ (c .args .live .now) (c .loop-first .struck) (c .loop-first .before)
+      (lawful-one g (c .args .one .now .rule .now) (c .args .one .now .ranking .now))
+      (lawful-two g (c .args .two .now .rule .now) (c .args .two .now .ranking .now)) (c .told-live) (c .loop-first .inv),
+)
+
+pub loop-first-less : need.loop-first-less
+loop-first-less g c =
+    let one = lawful-one g (c .args .one .now .rule .now) (c .args .one .now .ranking .now) in
+    let two = lawful-two g (c .args .two .now .rule .now) (c .args .two .now .ranking .now) in
+    running-less _ _ (c .args .live .now) (c .loop-first .struck) (c .turn-made .result .struck) (c .loop-first .before) _
+    (c .loop-first .inv) (c .turn-made .ensures _ _ (one .order) (two .order) (c .in-order .ensures) (c .in-order-2 .ensures))
+    (omega arith)
+    (λ same. both-ways (c .is-last .result) (c .if-is-last .left) (c .is-last .ensures .1 same)) one two (c .told-live)
+
+pub loop-first-again : need.loop-first-again
+loop-first-again g c =
+    let one = lawful-one g (c .args .one .now .rule .now) (c .args .one .now .ranking .now) in
+    let two = lawful-two g (c .args .two .now .rule .now) (c .args .two .now .ranking .now) in
+    running-next _ _ (c .args .live .now) (c .loop-first .struck) (c .turn-made .result .struck) (c .loop-first .before) _
+    (c .loop-first .inv) (c .turn-made .ensures _ _ (one .order) (two .order) (c .in-order .ensures) (c .in-order-2 .ensures))
+    (omega arith)
+    (λ same. both-ways (c .is-last .result) (c .if-is-last .left) (c .is-last .ensures .1 same))

@@ -1,0 +1,23 @@
+-- The theorems that the public functions of this crate promise. Assumes nothing.
+use mathlib.Core.Path.{_≡_}
+use mathlib.Core.Bool.{Bool}
+use Prim.Native.Nat.{ℕ, _+_, _≤_}
+use Rattle.matroid.specs.Sets.{Set, _∈_, _⊆_, Below, card}
+use Rattle.matroid.specs.Matroids.{Matroid, Side, Lawful}
+use Rattle.matroid.specs.Choices.{Choice}
+use Rattle.matroid.specs.Turns.{Ends}
+use Rattle.matroid.specs.Laminar.{Laminar, within-caps}
+
+-- What a side chooses from a set it also chooses from every part of that set that holds it.
+abbrev pub Choice-from-a-part : Type 0
+Choice-from-a-part = (n : ℕ) (side : Side) → Lawful n side → (A B K M : Set) → A ⊆ B → Below n B
+    → Choice side A K → Choice side B M → (x : ℕ) → x ∈ A → x ∈ M → x ∈ K
+
+-- Deferred acceptance takes at most one turn more than there are live applications.
+abbrev pub Turns-bounded : Type 0
+Turns-bounded = (n : ℕ) (one two : Side) → Lawful n one → Lawful n two → (live : Set) → Below n live
+    → (turns : ℕ) (list : Set) → Ends one two live turns list → turns ≤ card n live + 1
+
+-- The sets that keep every cap of a laminar family of groups are the independent sets of a matroid.
+abbrev pub Laminar-is-matroid : Type 0
+Laminar-is-matroid = (n m : ℕ) (group : ℕ → Set) (caps : ℕ → ℕ) → Laminar m group → Matroid n (within-caps n m group caps)

@@ -1,0 +1,18 @@
+// The theory of choice and deferred acceptance over matroids. Each function stands for a theorem:
+// it does nothing, and its contract is what is proved.
+ghost use Rattle.matroid.specs.Theorems.{Choice-from-a-part, Turns-bounded, Laminar-is-matroid};
+
+// What a side chooses from a set it also chooses from every part of that set that holds it.
+pub fn choice_is_kept_in_a_part()
+    ensures { λ _. ⌜ Choice-from-a-part ⌝ }
+{}
+
+// Deferred acceptance takes at most one turn more than there are live applications.
+pub fn turns_are_bounded()
+    ensures { λ _. ⌜ Turns-bounded ⌝ }
+{}
+
+// The sets that keep every cap of a laminar family of groups are the independent sets of a matroid.
+pub fn laminar_caps_make_a_matroid()
+    ensures { λ _. ⌜ Laminar-is-matroid ⌝ }
+{}

@@ -1,0 +1,5 @@
+pub mod Climbs
+pub mod Limits
+pub mod Outcomes
+pub mod Quotas
+pub mod Ranks

@@ -1,0 +1,55 @@
+-- The rank list: each of 256 applications has a rank of its own, and the smaller rank precedes.
+-- A row of ranks has the rank of application c at place c. Assumes nothing.
+use mathlib.Core.Path.{_≡_}
+use mathlib.Core.Bool.{Bool, cond}
+use mathlib.Core.List.{List, map}
+use Prim.Native.Nat.{ℕ, _<_}
+use lib.Dec.{eqb, leb, ltb}
+use lib.ListN.{length, getD, set}
+use Rattle.parts.specs.Limits.{applications}
+use Rattle.parts.specs.Outcomes.{Outcome, accepted, refused, refusal-here}
+use Rattle.parts.specs.declared.numbers.Application.{Application}
+use Rattle.parts.specs.declared.refusal.Cause.the-variants.{UnusedKey, ValueAboveLimit}
+
+-- the rank of application c
+abbrev pub rank-of : List ℕ → ℕ → ℕ
+rank-of ranks c = getD ranks c 0
+
+-- Each rank belongs to one application: there are 256 ranks, each is below 256, and no two applications
+-- have the same.
+pub record Distinct (ranks : List ℕ) : Type 0 where
+  pub long : length ranks ≡ applications
+  pub small : (c : ℕ) → c < applications → rank-of ranks c < applications
+  pub apart : (a b : ℕ) → a < applications → b < applications → rank-of ranks a ≡ rank-of ranks b → a ≡ b
+
+-- At first c has rank c.
+abbrev pub Counted : List ℕ → Type 0
+Counted ranks = (c : ℕ) → c < applications → rank-of ranks c ≡ c
+
+-- the smaller rank precedes
+abbrev pub rank-before : List ℕ → ℕ → ℕ → Bool
+rank-before ranks a b = ltb (rank-of ranks a) (rank-of ranks b)
+
+-- whoever had rank v gets the former rank of c, and c gets v
+abbrev pub exchanged : List ℕ → ℕ → ℕ → List ℕ
+exchanged ranks c v = set (map (λ r. cond (eqb r v) (rank-of ranks c) r) ranks) c v
+
+-- Key c with value v gives application c the rank v. A key above 255 is refused first, then a value above 255.
+abbrev pub ranks-written : List ℕ → ℕ → ℕ → Outcome (List ℕ)
+ranks-written ranks key value =
+    cond (ltb key applications)
+    (cond (leb value 255) (accepted (exchanged ranks key value)) (refused (refusal-here ValueAboveLimit key)))
+    (refused (refusal-here UnusedKey key))
+
+-- A row of holders has at place r the application whose rank is r. This is its number.
+abbrev pub holder-of : List Application → ℕ → ℕ
+holder-of holders r = getD holders r (record { 0 = 0 }) .0
+
+-- The two rows belong together: there are 256 ranks and 256 holders, each rank is below 256, holders
+-- undo ranks, and ranks undo holders.
+abbrev pub Paired : List ℕ → List Application → Type 0
+Paired ranks holders =
+    (length ranks ≡ applications) × (length holders ≡ applications)
+    × ((c : ℕ) → c < applications → rank-of ranks c < applications)
+    × ((c : ℕ) → c < applications → holder-of holders (rank-of ranks c) ≡ c)
+    × ((r : ℕ) → r < applications → rank-of ranks (holder-of holders r) ≡ r)
