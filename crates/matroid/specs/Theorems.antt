@@ -1,12 +1,14 @@
 -- The theorems that the public functions of this crate promise. Assumes nothing.
 use mathlib.Core.Path.{_≡_}
-use mathlib.Core.Bool.{Bool}
+use mathlib.Core.Bool.{_&&_, _||_}
 use Prim.Native.Nat.{ℕ, _+_, _≤_}
+use lib.Dec.{eqb, ltb}
 use Rattle.matroid.specs.Sets.{Set, _∈_, _⊆_, Below, card}
 use Rattle.matroid.specs.Matroids.{Matroid, Side, Lawful}
 use Rattle.matroid.specs.Choices.{Choice}
 use Rattle.matroid.specs.Turns.{Ends}
 use Rattle.matroid.specs.Laminar.{Laminar, within-caps}
+use Rattle.matroid.specs.Trees.{inside, Rooted}
 
 -- What a side chooses from a set it also chooses from every part of that set that holds it.
 abbrev pub Choice-from-a-part : Type 0
@@ -21,3 +23,8 @@ Turns-bounded = (n : ℕ) (one two : Side) → Lawful n one → Lawful n two →
 -- The sets that keep every cap of a laminar family of groups are the independent sets of a matroid.
 abbrev pub Laminar-is-matroid : Type 0
 Laminar-is-matroid = (n m : ℕ) (group : ℕ → Set) (caps : ℕ → ℕ) → Laminar m group → Matroid n (within-caps n m group caps)
+
+-- A group lies inside itself and inside each group that its parent lies inside, and inside no other.
+abbrev pub Inside-by-parents : Type 0
+Inside-by-parents = (parents : ℕ → ℕ) → Rooted parents → (h g : ℕ)
+    → inside parents h g ≡ (eqb h g || (ltb 0 h && inside parents (parents h) g))

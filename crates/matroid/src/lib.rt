@@ -1,6 +1,6 @@
 // The theory of choice and deferred acceptance over matroids. Each function stands for a theorem:
 // it does nothing, and its contract is what is proved.
-ghost use Rattle.matroid.specs.Theorems.{Choice-from-a-part, Turns-bounded, Laminar-is-matroid};
+ghost use Rattle.matroid.specs.Theorems.{Choice-from-a-part, Inside-by-parents, Laminar-is-matroid, Turns-bounded};
 
 // What a side chooses from a set it also chooses from every part of that set that holds it.
 pub fn choice_is_kept_in_a_part()
@@ -15,4 +15,9 @@ pub fn turns_are_bounded()
 // The sets that keep every cap of a laminar family of groups are the independent sets of a matroid.
 pub fn laminar_caps_make_a_matroid()
     ensures { λ _. ⌜ Laminar-is-matroid ⌝ }
+{}
+
+// A group lies inside itself and inside each group that its parent lies inside, and inside no other.
+pub fn groups_lie_inside_by_parents()
+    ensures { λ _. ⌜ Inside-by-parents ⌝ }
 {}
