@@ -38,7 +38,7 @@ pub fn choose<R: Rule, K: Ranking>(
     side: &Side<R, K>,
     offered: &[bool; APPLICATIONS],
 ) -> [bool; APPLICATIONS]
-    ensures { λ r. ⌜ Choice (side-of R·Rule K·Ranking (now (now (side .entry) .rule)) (now (now (side .entry) .ranking))) (members (now (offered .entry))) (members r) ⌝ }
+    ensures { λ r. ⌜ Choice (side-of R·Rule K·Ranking (now (side .entry))) (members (now (offered .entry))) (members r) ⌝ }
 {
     choose_along(side.rule, &in_order(side.ranking), offered)
 }

@@ -71,7 +71,11 @@ fn turn<R1: Rule, R2: Rule>(
     live: &[bool; APPLICATIONS],
     struck: &[bool; APPLICATIONS],
 ) -> Turned
-    ensures { λ r. ⌜ ((first second : ℕ → ℕ → Bool) → StrictOrder applications first → StrictOrder applications second → InOrder first (now (one .entry) .order) → InOrder second (now (two .entry) .order) → Turn (rule-by R1·Rule (now (now (one .entry) .rule)) first) (rule-by R2·Rule (now (now (two .entry) .rule)) second) (members (now (live .entry))) (members (now (struck .entry))) (members (r .offered)) (members (r .struck))) ⌝ }
+    ensures { λ r. ⌜ ((first second : ℕ → ℕ → Bool)
+        → StrictOrder applications first → StrictOrder applications second
+        → InOrder first (now (one .entry) .order) → InOrder second (now (two .entry) .order)
+        → Turn (rule-by R1·Rule (now (now (one .entry) .rule)) first) (rule-by R2·Rule (now (now (two .entry) .rule)) second)
+        (members (now (live .entry))) (members (now (struck .entry))) (members (r .offered)) (members (r .struck))) ⌝ }
 {
     let offered = choose_along(one.rule, &one.order, &without(live, struck));
     let shown = joined(struck, &offered);
@@ -89,7 +93,8 @@ pub fn clear<R1: Rule, K1: Ranking, R2: Rule, K2: Ranking>(
     two: &Side<R2, K2>,
     live: &[bool; APPLICATIONS],
 ) -> Cleared
-    ensures ends { λ r. ⌜ Ends (side-of R1·Rule K1·Ranking (now (now (one .entry) .rule)) (now (now (one .entry) .ranking))) (side-of R2·Rule K2·Ranking (now (now (two .entry) .rule)) (now (now (two .entry) .ranking))) (members (now (live .entry))) (r .turns) (members (r .list)) ⌝ }
+    ensures ends { λ r. ⌜ Ends (side-of R1·Rule K1·Ranking (now (one .entry))) (side-of R2·Rule K2·Ranking (now (two .entry)))
+        (members (now (live .entry))) (r .turns) (members (r .list)) ⌝ }
     ensures bounded { λ r. ⌜ r .turns ≤ card applications (members (now (live .entry))) + 1 ⌝ }
 {
     let first = Ordered {

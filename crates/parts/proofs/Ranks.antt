@@ -13,7 +13,8 @@ use Rattle.std.proofs.shelf.Tests.{cases-eq, cases-lt}
 use Rattle.std.proofs.shelf.Ways.{tells}
 use Rattle.parts.specs.Limits.{applications}
 use Rattle.parts.specs.Outcomes.{accepted}
-use Rattle.parts.specs.Ranks.{rank-of, holder-of, exchanged, ranks-written, Counted, Distinct, Paired}
+use Rattle.parts.specs.Holders.{holder-of, Paired}
+use Rattle.parts.specs.Ranks.{rank-of, exchanged, ranks-written, RankedByNumber, Distinct}
 use Rattle.parts.specs.declared.numbers.Application.{Application}
 
 -- the other one of a and b, and any further number as it is
@@ -97,7 +98,7 @@ paired-distinct ranks holders paired = record {
 
 -- the rows at first
 pub counted-paired : (ranks : List ℕ) (holders : List Application)
-    → length ranks ≡ applications → length holders ≡ applications → Counted ranks
+    → length ranks ≡ applications → length holders ≡ applications → RankedByNumber ranks
     → ((r : ℕ) → r < applications → holder-of holders r ≡ r) → Paired ranks holders
 counted-paired ranks holders ranked held counted own = (
   ranked,

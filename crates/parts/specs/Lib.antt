@@ -1,4 +1,5 @@
 pub mod Climbs
+pub mod Holders
 pub mod Laws
 pub mod Limits
 pub mod Outcomes

@@ -8,7 +8,6 @@ use lib.Dec.{eqb, leb, ltb}
 use lib.ListN.{length, getD, set}
 use Rattle.parts.specs.Limits.{applications}
 use Rattle.parts.specs.Outcomes.{Outcome, accepted, refused, refusal-here}
-use Rattle.parts.specs.declared.numbers.Application.{Application}
 use Rattle.parts.specs.declared.refusal.Cause.the-variants.{UnusedKey, ValueAboveLimit}
 
 -- the rank of application c
@@ -23,8 +22,8 @@ pub record Distinct (ranks : List ℕ) : Type 0 where
   pub apart : (a b : ℕ) → a < applications → b < applications → rank-of ranks a ≡ rank-of ranks b → a ≡ b
 
 -- At first c has rank c.
-abbrev pub Counted : List ℕ → Type 0
-Counted ranks = (c : ℕ) → c < applications → rank-of ranks c ≡ c
+abbrev pub RankedByNumber : List ℕ → Type 0
+RankedByNumber ranks = (c : ℕ) → c < applications → rank-of ranks c ≡ c
 
 -- the smaller rank precedes
 abbrev pub rank-before : List ℕ → ℕ → ℕ → Bool
@@ -40,16 +39,3 @@ ranks-written ranks key value =
     cond (ltb key applications)
     (cond (leb value 255) (accepted (exchanged ranks key value)) (refused (refusal-here ValueAboveLimit key)))
     (refused (refusal-here UnusedKey key))
-
--- A row of holders has at place r the application whose rank is r. This is its number.
-abbrev pub holder-of : List Application → ℕ → ℕ
-holder-of holders r = getD holders r (record { 0 = 0 }) .0
-
--- The two rows belong together: there are 256 ranks and 256 holders, each rank is below 256, holders
--- undo ranks, and ranks undo holders.
-abbrev pub Paired : List ℕ → List Application → Type 0
-Paired ranks holders =
-    (length ranks ≡ applications) × (length holders ≡ applications)
-    × ((c : ℕ) → c < applications → rank-of ranks c < applications)
-    × ((c : ℕ) → c < applications → holder-of holders (rank-of ranks c) ≡ c)
-    × ((r : ℕ) → r < applications → rank-of ranks (holder-of holders r) ≡ r)

@@ -1,6 +1,7 @@
 // The rank list: a ranking in which each rank belongs to one application.
 ghost use mathlib.Core.Path.{_≡_};
-ghost use Rattle.parts.specs.Ranks.{Counted, Distinct, exchanged, Paired, rank-before, rank-of, ranks-written};
+ghost use Rattle.parts.specs.Holders.{Paired};
+ghost use Rattle.parts.specs.Ranks.{Distinct, exchanged, rank-before, rank-of, RankedByNumber, ranks-written};
 use super::numbers::APPLICATIONS;
 use super::numbers::Application;
 use super::ranking::Ranking;
@@ -16,16 +17,24 @@ pub struct RankList {
     ghost paired: { Paired ranks holders },
 }
 
+// At first an application's rank is its number.
+fn first_rank(application: Application) -> u8
+    ensures { λ r. ⌜ r ≡ application .0 ⌝ }
+{
+    application.number()
+}
+
 impl RankList {
-    // At first each application's rank is its number.
+    // Every application with its first rank.
     pub fn new() -> RankList
-        ensures { λ r. ⌜ Counted (r .ranks) ⌝ }
+        ensures { λ r. ⌜ RankedByNumber (r .ranks) ⌝ }
     {
         let mut ranks = [0; APPLICATIONS];
         let mut holders = [Application::new(0); APPLICATIONS];
         for number in 0..APPLICATIONS {
-            ranks[number] = number as u8;
-            holders[number] = Application::new(number as u8);
+            let application = Application::new(number as u8);
+            ranks[number] = first_rank(application);
+            holders[number] = application;
         }
         RankList { ranks, holders }
     }

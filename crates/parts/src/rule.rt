@@ -37,7 +37,8 @@ pub trait Rule: Sized {
 
     // Puts the value under the key, or refuses and leaves the settings.
     fn write(&mut self, key: u16, value: u32) -> Result<(), WriteRefusal>
-        ensures { λ r. ⌜ Follows (written (settings (now (self .entry))) key value) (settings (now (self .entry))) (settings (now (self .exit))) r ⌝ };
+        ensures { λ r. ⌜ Follows (written (settings (now (self .entry))) key value)
+            (settings (now (self .entry))) (settings (now (self .exit))) r ⌝ };
 
     // Another rule of the same meaning.
     fn copied(&self) -> Self

@@ -30,7 +30,8 @@ impl QuotaTree {
     // One member more for the home group and for every group above it.
     fn count_upward(&self, counts: &mut [u16; GROUPS], home: Group)
         requires { ⌜ ((g : ℕ) → g < groups → getD (now counts) g 0 < 256) ⌝ }
-        ensures { λ _. ⌜ ((g : ℕ) → g < groups → getD (now (counts .exit)) g 0 ≡ getD (now (counts .entry)) g 0 + cond (inside (parent-of (now (self .entry) .quotas)) (home .number) g) 1 0) ⌝ }
+        ensures { λ _. ⌜ ((g : ℕ) → g < groups
+            → getD (now (counts .exit)) g 0 ≡ getD (now (counts .entry)) g 0 + cond (inside (parent-of (now (self .entry) .quotas)) (home .number) g) 1 0) ⌝ }
     {
         let mut next = Some(home);
         while let Some(group) = next {
@@ -45,7 +46,8 @@ impl QuotaTree {
         marked: &[bool; APPLICATIONS],
         asked: Application,
     ) -> [u16; GROUPS]
-        ensures { λ r. ⌜ ((g : ℕ) → g < groups → getD r g 0 ≡ card applications (add (members (now (marked .entry))) (asked .0) ∩ belonging (now (self .entry) .quotas) g)) ⌝ }
+        ensures { λ r. ⌜ ((g : ℕ) → g < groups
+            → getD r g 0 ≡ card applications (add (members (now (marked .entry))) (asked .0) ∩ belonging (now (self .entry) .quotas) g)) ⌝ }
     {
         let mut counts = [0u16; GROUPS];
         for (c, mark) in marked.iter().enumerate() {

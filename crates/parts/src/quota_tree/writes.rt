@@ -11,7 +11,8 @@ impl QuotaTree {
     // Key g sets the cap of group g.
     pub(super) fn write_cap(&mut self, key: u16, value: u32) -> Result<(), WriteRefusal>
         requires { ⌜ key < 128 ⌝ }
-        ensures { λ r. ⌜ Follows (cap-written (now (self .entry) .quotas) key value) (now (self .entry) .quotas) (now (self .exit) .quotas) r ⌝ }
+        ensures { λ r. ⌜ Follows (cap-written (now (self .entry) .quotas) key value)
+            (now (self .entry) .quotas) (now (self .exit) .quotas) r ⌝ }
     {
         if value > 256 {
             return Err(WriteRefusal::here(Cause::ValueAboveLimit, key));
@@ -23,7 +24,8 @@ impl QuotaTree {
     // Key 128 + g sets the parent of group g.
     pub(super) fn write_parent(&mut self, key: u16, value: u32) -> Result<(), WriteRefusal>
         requires { ⌜ 128 < key ⌝ ∗ ⌜ key < 256 ⌝ }
-        ensures { λ r. ⌜ Follows (parent-written (now (self .entry) .quotas) key value) (now (self .entry) .quotas) (now (self .exit) .quotas) r ⌝ }
+        ensures { λ r. ⌜ Follows (parent-written (now (self .entry) .quotas) key value)
+            (now (self .entry) .quotas) (now (self .exit) .quotas) r ⌝ }
     {
         let group = usize::from(key - 128);
         let Some(parent) = Group::new(value) else {
@@ -39,7 +41,8 @@ impl QuotaTree {
     // Key 256 + c sets the home of application c.
     pub(super) fn write_home(&mut self, key: u16, value: u32) -> Result<(), WriteRefusal>
         requires { ⌜ 256 ≤ key ⌝ ∗ ⌜ key < 512 ⌝ }
-        ensures { λ r. ⌜ Follows (home-written (now (self .entry) .quotas) key value) (now (self .entry) .quotas) (now (self .exit) .quotas) r ⌝ }
+        ensures { λ r. ⌜ Follows (home-written (now (self .entry) .quotas) key value)
+            (now (self .entry) .quotas) (now (self .exit) .quotas) r ⌝ }
     {
         let Some(home) = Group::new(value) else {
             return Err(WriteRefusal::here(Cause::ValueAboveLimit, key));

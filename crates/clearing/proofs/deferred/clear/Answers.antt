@@ -4,22 +4,23 @@ use Rattle.matroid.proofs.Rounds.{turns-bounded}
 use Rattle.std.proofs.shelf.Tests.{both-ways}
 use Rattle.parts.specs.Limits.{applications}
 use Rattle.clearing.specs.Sides.{side-of}
+use Rattle.clearing.specs.declared.side.Side as code
 use Rattle.clearing.proofs.Rows.{marked-below}
 use Rattle.clearing.proofs.Running.{ends-with, running-ends, running-few, running-first, running-less, running-next}
 use Rattle.clearing.proofs.deferred.clear.Given as given
 use Rattle.clearing.proofs.deferred.clear.Needs as need
 
 -- the two sides keep the laws, since their parts do
-lawful-one : (g : given.Over) (r : g .R1 .Denot) (k : g .K1 .Denot) → Lawful applications (side-of (g .R1·Rule) (g .K1·Ranking) r k)
-lawful-one g r k = record {
-  matroid = g .R1·Rule·met .matroid _ (g .R1·Rule·met .«settings_sound» r);
-  order = g .K1·Ranking·met .order _ (g .K1·Ranking·met .«settings_sound» k);
+lawful-one : (g : given.Over) (side : code.Side (g .R1 .Denot) (g .K1 .Denot) _ _) → Lawful applications (side-of (g .R1·Rule) (g .K1·Ranking) side)
+lawful-one g side = record {
+  matroid = g .R1·Rule·met .matroid _ (g .R1·Rule·met .«settings_sound» (side .rule .now));
+  order = g .K1·Ranking·met .order _ (g .K1·Ranking·met .«settings_sound» (side .ranking .now));
 }
 
-lawful-two : (g : given.Over) (r : g .R2 .Denot) (k : g .K2 .Denot) → Lawful applications (side-of (g .R2·Rule) (g .K2·Ranking) r k)
-lawful-two g r k = record {
-  matroid = g .R2·Rule·met .matroid _ (g .R2·Rule·met .«settings_sound» r);
-  order = g .K2·Ranking·met .order _ (g .K2·Ranking·met .«settings_sound» k);
+lawful-two : (g : given.Over) (side : code.Side (g .R2 .Denot) (g .K2 .Denot) _ _) → Lawful applications (side-of (g .R2·Rule) (g .K2·Ranking) side)
+lawful-two g side = record {
+  matroid = g .R2·Rule·met .matroid _ (g .R2·Rule·met .«settings_sound» (side .rule .now));
+  order = g .K2·Ranking·met .order _ (g .K2·Ranking·met .«settings_sound» (side .ranking .now));
 }
 
 pub loop-first-holds : need.loop-first-holds
@@ -29,14 +30,14 @@ pub after-requires : need.after-requires
 after-requires g c κs = omega (
   arith,
   running-few _ _ (c .args .live .now) (c .loop-first .struck) (c .loop-first .before)
-      (lawful-one g (c .args .one .now .rule .now) (c .args .one .now .ranking .now))
-      (lawful-two g (c .args .two .now .rule .now) (c .args .two .now .ranking .now)) (c .told-live) (c .loop-first .inv),
+      (lawful-one g (c .args .one .now))
+      (lawful-two g (c .args .two .now)) (c .told-live) (c .loop-first .inv),
 )
 
 pub returns-then-is-last : need.returns-then-is-last
 returns-then-is-last g c =
-    let one = lawful-one g (c .args .one .now .rule .now) (c .args .one .now .ranking .now) in
-    let two = lawful-two g (c .args .two .now .rule .now) (c .args .two .now .ranking .now) in
+    let one = lawful-one g (c .args .one .now) in
+    let two = lawful-two g (c .args .two .now) in
     let ended = ends-with _ _ _ _ _ (c .after .result .list) (c .after .ensures .1)
     (running-ends _ _ (c .args .live .now) (c .loop-first .struck) (c .turn-made .result .struck) (c .loop-first .before) _
     (c .loop-first .inv) (c .turn-made .ensures _ _ (one .order) (two .order) (c .in-order .ensures) (c .in-order-2 .ensures))
@@ -50,14 +51,14 @@ pub add-before : need.add-before
 add-before g c = omega (
   arith,
   running-few _ _ (c .args .live .now) (c .loop-first .struck) (c .loop-first .before)
-      (lawful-one g (c .args .one .now .rule .now) (c .args .one .now .ranking .now))
-      (lawful-two g (c .args .two .now .rule .now) (c .args .two .now .ranking .now)) (c .told-live) (c .loop-first .inv),
+      (lawful-one g (c .args .one .now))
+      (lawful-two g (c .args .two .now)) (c .told-live) (c .loop-first .inv),
 )
 
 pub loop-first-less : need.loop-first-less
 loop-first-less g c =
-    let one = lawful-one g (c .args .one .now .rule .now) (c .args .one .now .ranking .now) in
-    let two = lawful-two g (c .args .two .now .rule .now) (c .args .two .now .ranking .now) in
+    let one = lawful-one g (c .args .one .now) in
+    let two = lawful-two g (c .args .two .now) in
     running-less _ _ (c .args .live .now) (c .loop-first .struck) (c .turn-made .result .struck) (c .loop-first .before) _
     (c .loop-first .inv) (c .turn-made .ensures _ _ (one .order) (two .order) (c .in-order .ensures) (c .in-order-2 .ensures))
     (omega arith)
@@ -65,8 +66,8 @@ loop-first-less g c =
 
 pub loop-first-again : need.loop-first-again
 loop-first-again g c =
-    let one = lawful-one g (c .args .one .now .rule .now) (c .args .one .now .ranking .now) in
-    let two = lawful-two g (c .args .two .now .rule .now) (c .args .two .now .ranking .now) in
+    let one = lawful-one g (c .args .one .now) in
+    let two = lawful-two g (c .args .two .now) in
     running-next _ _ (c .args .live .now) (c .loop-first .struck) (c .turn-made .result .struck) (c .loop-first .before) _
     (c .loop-first .inv) (c .turn-made .ensures _ _ (one .order) (two .order) (c .in-order .ensures) (c .in-order-2 .ensures))
     (omega arith)

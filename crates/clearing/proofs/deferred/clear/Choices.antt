@@ -6,8 +6,8 @@ use Rattle.clearing.proofs.Running.{Running}
 use Rattle.clearing.proofs.deferred.clear.Given as given
 
 abbrev pub Inv-loop-first : given.InvT-loop-first
-Inv-loop-first g l = Running (side-of (g .R1·Rule) (g .K1·Ranking) (l .one .rule .now) (l .one .ranking .now))
-    (side-of (g .R2·Rule) (g .K2·Ranking) (l .two .rule .now) (l .two .ranking .now)) (l .live) (l .struck) (l .before)
+Inv-loop-first g l = Running (side-of (g .R1·Rule) (g .K1·Ranking) (l .one))
+    (side-of (g .R2·Rule) (g .K2·Ranking) (l .two)) (l .live) (l .struck) (l .before)
 
 abbrev pub μ-loop-first : given.MeasureT-loop-first
 μ-loop-first g l = applications - card applications (members (l .struck))

@@ -14,8 +14,9 @@ loop-number-again c =
     let inv = c .loop-number .inv in (
       simp (length-set, inv .0),
       simp (length-set, inv .1),
-      fill-by-more (λ k. k) ranks number 0 (omega arith) (inv .2),
-      λ k l. ap (λ n. getD (set holders number (record { 0 = n })) k (record { 0 = 0 })) (c .new .ensures)
+      λ k l. ap (λ n. getD (set ranks number n) k 0) (c .first-rank .ensures ∙ c .new-application .ensures)
+          ∙ fill-by-more (λ j. j) ranks number 0 (omega arith) (inv .2) k l,
+      λ k l. ap (λ n. getD (set holders number (record { 0 = n })) k (record { 0 = 0 })) (c .new-application .ensures)
           ∙ fill-by-more (λ j. record { 0 = j }) holders number (record { 0 = 0 }) (omega arith) (inv .3) k l,
     )
 
