@@ -1,7 +1,7 @@
 -- The turns of a clearing, over rows of marks: a turn is made of two choices; what is struck is
 -- reached by turns that each struck something new, so more is struck from turn to turn, there are
 -- few turns, and a turn that strikes nothing new ends the clearing. Assumes nothing.
-use mathlib.Core.Path.{_≡_, refl, sym, _∙_, ap, subst, fun-ext}
+use mathlib.Core.Path.{_≡_, sym, _∙_, ap, subst, fun-ext}
 use mathlib.Core.Bool.{Bool, false}
 use mathlib.Core.List.{List}
 use Prim.Native.Nat.{ℕ, _+_, _-_, _≤_, _<_}

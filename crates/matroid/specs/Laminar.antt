@@ -1,7 +1,6 @@
 -- Caps over a laminar family of groups. Assumes nothing.
-use mathlib.Core.Path.{_≡_}
 use mathlib.Core.Logic.{_⊎_}
-use mathlib.Core.Bool.{Bool, true, false, _&&_}
+use mathlib.Core.Bool.{Bool, true, _&&_}
 use Prim.Native.Nat.{ℕ, zero, suc, _<_}
 use lib.Dec.{leb}
 use Rattle.matroid.specs.Sets.{Set, _∈_, _∉_, _⊆_, _∩_, card}
@@ -11,10 +10,11 @@ unfoldable pub every : ℕ → (ℕ → Bool) → Bool
 every zero test = true
 every (suc n) test = every n test && test n
 
--- no group below m has more members of S than its cap
+-- no group below m has more members of S, counted below n, than its cap
 abbrev pub within-caps : (n m : ℕ) (group : ℕ → Set) (caps : ℕ → ℕ) → Set → Bool
 within-caps n m group caps S = every m (λ g. leb (card n (S ∩ group g)) (caps g))
 
--- of two groups below m the one of larger number lies within the other, or they have no member in common
+-- The groups below m are laminar, in this order: of two of them the one of larger number lies within
+-- the other, or they have no member in common.
 abbrev pub Laminar : ℕ → (ℕ → Set) → Type 0
 Laminar m group = (g k : ℕ) → g < m → k < g → (group g ⊆ group k) ⊎ ((x : ℕ) → x ∈ group g → x ∉ group k)

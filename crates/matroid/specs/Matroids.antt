@@ -27,6 +27,7 @@ pub record Side : Type 0 where
   pub independent : Set → Bool
   pub precedes : ℕ → ℕ → Bool
 
+-- A side that keeps the laws: its rule is a matroid, its ranking a strict order.
 pub record Lawful (n : ℕ) (side : Side) : Type 0 where
   pub matroid : Matroid n (side .independent)
   pub order : StrictOrder n (side .precedes)

@@ -3,12 +3,12 @@ use mathlib.Core.Bool.{Bool, _&&_, _||_}
 use Prim.Native.Nat.{ℕ, zero, suc, _<_}
 use lib.Dec.{eqb, ltb}
 
--- Group h is g or lies below it on the way up by parents; at most `steps` steps are taken.
+-- group g is reached from h in at most `steps` steps, each from a group to its parent
 unfoldable pub climbs : (parents : ℕ → ℕ) → (steps h g : ℕ) → Bool
 climbs parents zero h g = eqb h g
 climbs parents (suc steps) h g = eqb h g || (ltb 0 h && climbs parents steps (parents h) g)
 
--- h is g or lies below it. Parents are smaller, so from h no more than h steps lead up.
+-- group h is g or lies below it; parents are smaller, so h steps lead to the top
 abbrev pub inside : (ℕ → ℕ) → ℕ → ℕ → Bool
 inside parents h g = climbs parents h h g
 

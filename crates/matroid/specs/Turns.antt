@@ -13,14 +13,14 @@ pub record Turn (one two : Side) (live struck offered struck′ : Set) : Type 0 
   pub keeps : Choice two (struck ∪ offered) kept
   pub strikes : struck′ ≡ (struck ∪ offered) ∖ kept
 
--- After that many turns, each of which struck something new, so much is struck.
+-- After that many turns, each of which changed the struck set, so much is struck.
 pub data Run (one two : Side) (live : Set) : ℕ → Set → Type 0 where
   start : Run one two live 0 ∅
   next : {turns : ℕ} {struck struck′ : Set} (offered : Set) → Run one two live turns struck
       → Turn one two live struck offered struck′ → (struck′ ≡ struck → ⊥) → Run one two live (turns + 1) struck′
 
 -- Deferred acceptance ends with the list after that many turns: the last one, which counts too,
--- struck nothing new, and the list is what side one offered in it.
+-- left the struck set as it was, and the list is what side one offered in it.
 pub record Ends (one two : Side) (live : Set) (turns : ℕ) (list : Set) : Type 0 where
   pub before : ℕ
   pub struck : Set

@@ -7,6 +7,7 @@ use parts::numbers::APPLICATIONS;
 use parts::numbers::Application;
 use parts::numbers::GROUPS;
 use parts::numbers::Group;
+use parts::numbers::GroupPartialEq;
 use parts::quota_tree::QuotaTreeRule;
 use parts::rank_list::RankListRanking;
 use std::alloc::AllocError;
@@ -67,7 +68,7 @@ fn at_home(side: &Parts, group: Group, live: &[bool; APPLICATIONS]) -> [bool; AP
     let mut marks = [false; APPLICATIONS];
     for (number, mark) in marks.iter_mut().enumerate() {
         let home = side.quotas.home(Application::new(number as u8));
-        *mark = live[number] && home.number() == group.number();
+        *mark = live[number] && home == group;
     }
     marks
 }

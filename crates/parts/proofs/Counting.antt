@@ -1,6 +1,6 @@
 -- Counting the members of a set in a group, one number after the other. Assumes nothing.
 use mathlib.Core.Path.{_≡_, sym, _∙_, ap}
-use mathlib.Core.Bool.{true, false, cond, _&&_}
+use mathlib.Core.Bool.{cond, _&&_}
 use Prim.Native.Nat.{ℕ, _+_}
 use native.Mathlib.Nat.{add-zero}
 use Rattle.matroid.specs.Sets.{Set, _∈_, _∉_, _∩_, card}

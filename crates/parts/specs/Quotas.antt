@@ -1,25 +1,24 @@
 -- The quota tree: its settings, what they mean, and what a write makes of them. Assumes nothing.
-use mathlib.Core.Bool.{Bool, true, false, cond, _&&_}
+use mathlib.Core.Bool.{Bool, cond, _&&_}
 use Prim.Native.Nat.{ℕ, _-_, _<_}
 use native.Mathlib.Decide.{decLt}
 use lib.Dec.{leb, ltb, lit<}
 use lib.ListN.{getD, set, replicate}
 use Rattle.matroid.specs.Sets.{Set}
 use Rattle.matroid.specs.Laminar.{within-caps}
-use Rattle.matroid.specs.Trees.{inside, Rooted}
+use Rattle.matroid.specs.Trees.{inside}
 use Rattle.parts.specs.Limits.{applications, groups}
-use Rattle.parts.specs.Outcomes.{Outcome, accepted, refused, refusal-here}
+use Rattle.parts.specs.Outcomes.{Outcome, accepted, refuses}
 use Rattle.parts.specs.declared.numbers.Group.{Group}
 use Rattle.parts.specs.declared.quota_tree.quotas.Quota.{Quota}
 use Rattle.parts.specs.declared.quota_tree.quotas.Quotas.{Quotas}
-use Rattle.parts.specs.declared.refusal.Cause.{Cause}
 use Rattle.parts.specs.declared.refusal.Cause.the-variants.{UnusedKey, ValueAboveLimit, ParentNotSmaller}
 
 -- group 0, above all the others
 abbrev pub root : Group
 root = record { number = 0; within = lit< tt }
 
--- the group of a number, where that is below 128
+-- the group of a number below 128; any other number gives group 0
 abbrev pub numbered : (number : ℕ) → Dec (number < 128) → Group
 numbered number (yes within) = record { number = number; within = within }
 numbered number (no beyond) = root
@@ -61,10 +60,6 @@ with-parent q g parent = record { groups = set (q .groups) g (record { «cap» =
 
 abbrev pub with-home : Quotas → ℕ → Group → Quotas
 with-home q c home = record { groups = q .groups; homes = set (q .homes) c home }
-
--- the refusal of a write under that key
-abbrev refuses : Cause → ℕ → Outcome Quotas
-refuses cause key = refused (refusal-here cause key)
 
 -- key g, from 0 to 127, sets the cap of group g, to 256 at most
 abbrev pub cap-written : Quotas → ℕ → ℕ → Outcome Quotas

@@ -4,10 +4,10 @@ use mathlib.Core.Path.{_≡_}
 use mathlib.Core.Bool.{Bool, cond}
 use mathlib.Core.List.{List, map}
 use Prim.Native.Nat.{ℕ, _<_}
-use lib.Dec.{eqb, leb, ltb}
+use lib.Dec.{eqb, ltb}
 use lib.ListN.{length, getD, set}
 use Rattle.parts.specs.Limits.{applications}
-use Rattle.parts.specs.Outcomes.{Outcome, accepted, refused, refusal-here}
+use Rattle.parts.specs.Outcomes.{Outcome, accepted, refuses}
 use Rattle.parts.specs.declared.refusal.Cause.the-variants.{UnusedKey, ValueAboveLimit}
 
 -- the rank of application c
@@ -37,5 +37,5 @@ exchanged ranks c v = set (map (λ r. cond (eqb r v) (rank-of ranks c) r) ranks)
 abbrev pub ranks-written : List ℕ → ℕ → ℕ → Outcome (List ℕ)
 ranks-written ranks key value =
     cond (ltb key applications)
-    (cond (leb value 255) (accepted (exchanged ranks key value)) (refused (refusal-here ValueAboveLimit key)))
-    (refused (refusal-here UnusedKey key))
+    (cond (ltb value applications) (accepted (exchanged ranks key value)) (refuses ValueAboveLimit key))
+    (refuses UnusedKey key)

@@ -39,7 +39,7 @@ impl Application {
 }
 
 // A quota group.
-#[derive(Clone, Copy)]
+#[derive(Clone, Copy, PartialEq, Eq, Debug)]
 pub struct Group {
     number: u8,
     ghost within: { number < 128 },
@@ -53,7 +53,7 @@ impl Group {
     pub fn new(number: u32) -> Option<Group>
         ensures { λ r. ⌜ BySome r (128 ≤ number) (λ g. g .number ≡ number) ⌝ }
     {
-        if number < 128 {
+        if (number as usize) < GROUPS {
             Some(Group {
                 number: number as u8,
             })
@@ -84,7 +84,7 @@ impl Group {
 }
 
 // A seat at a college.
-#[derive(Clone, Copy)]
+#[derive(Clone, Copy, PartialEq, Eq, Debug)]
 pub struct Place {
     seat: u8,
     ghost within: { seat < 32 },
@@ -95,7 +95,7 @@ impl Place {
     pub fn new(number: u32) -> Option<Place>
         ensures { λ r. ⌜ BySome r (32 ≤ number) (λ p. p .seat ≡ number) ⌝ }
     {
-        if number < 32 {
+        if (number as usize) < PLACES {
             Some(Place { seat: number as u8 })
         } else {
             None

@@ -2,11 +2,11 @@
 ghost use mathlib.Core.Path.{_≡_};
 ghost use Rattle.parts.specs.Holders.{Paired};
 ghost use Rattle.parts.specs.Ranks.{Distinct, exchanged, rank-before, rank-of, RankedByNumber, ranks-written};
-use super::numbers::APPLICATIONS;
-use super::numbers::Application;
-use super::ranking::Ranking;
-use super::refusal::Cause;
-use super::refusal::WriteRefusal;
+use crate::numbers::APPLICATIONS;
+use crate::numbers::Application;
+use crate::ranking::Ranking;
+use crate::refusal::Cause;
+use crate::refusal::WriteRefusal;
 
 // The rank of each application, and the application that has each rank, so that an exchange
 // need not look for the other application.

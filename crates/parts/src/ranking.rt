@@ -5,8 +5,8 @@ ghost use Prim.Native.Nat.{ℕ};
 ghost use Rattle.matroid.specs.Matroids.{StrictOrder};
 ghost use Rattle.parts.specs.Limits.{applications};
 ghost use Rattle.parts.specs.Outcomes.{Outcome, accepted, Follows};
-use super::numbers::Application;
-use super::refusal::WriteRefusal;
+use crate::numbers::Application;
+use crate::refusal::WriteRefusal;
 
 pub trait Ranking: Sized {
     // The ranking's meaning. Each implementation chooses its kind.
@@ -23,10 +23,13 @@ pub trait Ranking: Sized {
     // What comes of a write with a key and a value.
     ghost written: { Self·Settings → ℕ → ℕ → Outcome Self·Settings };
 
+    // The settings of every ranking are sound.
     law settings_sound: { (ranking : Self) → sound (settings ranking) };
 
+    // An accepted write leaves sound settings.
     law written_sound: { (s new : Self·Settings) (key value : ℕ) → sound s → written s key value ≡ accepted new → sound new };
 
+    // Sound settings give a strict order.
     law order: { (s : Self·Settings) → sound s → StrictOrder applications (before s) };
 
     // Whether the first application precedes the second.

@@ -1,6 +1,7 @@
 // Why a part refuses a write.
 ghost use mathlib.Core.Path.{_≡_};
-ghost use Rattle.parts.specs.Outcomes.{cause-number, refusal-here};
+ghost use Rattle.parts.specs.Outcomes.{cause-number, cause-text, refusal-here, refusal-text};
+ghost use Rattle.std.specs.declared.option.Option.the-variants.{Some};
 use std::error::Error;
 use std::fmt;
 
@@ -15,7 +16,7 @@ pub enum Cause {
 }
 
 impl Cause {
-    // The number by which officers know the cause.
+    // The number of the cause in the rule book.
     pub fn number(self) -> u8
         ensures { λ r. ⌜ r ≡ cause-number self ⌝ }
     {
@@ -49,16 +50,20 @@ impl WriteRefusal {
 }
 
 pub impl fmt::Display for Cause as CauseDisplay {
+    ghost shown = { λ cause. Some (cause-text cause) };
+
     fn fmt<W: fmt::Write>(&self, f: &mut fmt::Formatter<W>) -> fmt::Result {
         match self {
-            Cause::UnusedKey => f.write_str("the key has no use here"),
-            Cause::ValueAboveLimit => f.write_str("the value is above its limit"),
+            Cause::UnusedKey => f.write_str("the key has no use in this part"),
+            Cause::ValueAboveLimit => f.write_str("the value is above the limit of its key"),
             Cause::ParentNotSmaller => f.write_str("the parent is not smaller than the group"),
         }
     }
 }
 
 pub impl fmt::Display for WriteRefusal as WriteRefusalDisplay {
+    ghost shown = { λ refusal. Some (refusal-text refusal) };
+
     fn fmt<W: fmt::Write>(&self, f: &mut fmt::Formatter<W>) -> fmt::Result {
         let cause = self.cause;
         let depth = self.depth;

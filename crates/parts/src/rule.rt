@@ -6,9 +6,9 @@ ghost use Rattle.matroid.specs.Matroids.{Matroid};
 ghost use Rattle.matroid.specs.Sets.{Set, add, members};
 ghost use Rattle.parts.specs.Limits.{applications};
 ghost use Rattle.parts.specs.Outcomes.{Outcome, accepted, Follows};
-use super::numbers::APPLICATIONS;
-use super::numbers::Application;
-use super::refusal::WriteRefusal;
+use crate::numbers::APPLICATIONS;
+use crate::numbers::Application;
+use crate::refusal::WriteRefusal;
 
 pub trait Rule: Sized {
     // The rule's meaning. Each implementation chooses its kind.
@@ -25,10 +25,13 @@ pub trait Rule: Sized {
     // What comes of a write with a key and a value.
     ghost written: { Self·Settings → ℕ → ℕ → Outcome Self·Settings };
 
+    // The settings of every rule are sound.
     law settings_sound: { (rule : Self) → sound (settings rule) };
 
+    // An accepted write leaves sound settings.
     law written_sound: { (s new : Self·Settings) (key value : ℕ) → sound s → written s key value ≡ accepted new → sound new };
 
+    // Sound settings give a matroid.
     law matroid: { (s : Self·Settings) → sound s → Matroid applications (independent s) };
 
     // Whether the marked applications together with that one are independent.

@@ -8,25 +8,14 @@ ghost use Rattle.matroid.specs.Laminar.{every};
 ghost use Rattle.matroid.specs.Sets.{add, card, members, _∩_};
 ghost use Rattle.matroid.specs.Trees.{inside};
 ghost use Rattle.parts.specs.Limits.{applications, groups};
-ghost use Rattle.parts.specs.Climbs.{NextUp};
 ghost use Rattle.parts.specs.Quotas.{belonging, cap-of, parent-of};
-use super::super::numbers::APPLICATIONS;
-use super::super::numbers::Application;
-use super::super::numbers::GROUPS;
-use super::super::numbers::Group;
 use super::QuotaTree;
+use crate::numbers::APPLICATIONS;
+use crate::numbers::Application;
+use crate::numbers::GROUPS;
+use crate::numbers::Group;
 
 impl QuotaTree {
-    // The group above, if there is one.
-    fn above(&self, group: Group) -> Option<Group>
-        ensures { λ r. ⌜ NextUp (parent-of (now (self .entry) .quotas)) (group .number) r ⌝ }
-    {
-        if group.number() == 0 {
-            return None;
-        }
-        Some(self.quotas.groups[group.index()].parent)
-    }
-
     // One member more for the home group and for every group above it.
     fn count_upward(&self, counts: &mut [u16; GROUPS], home: Group)
         requires { ⌜ ((g : ℕ) → g < groups → getD (now counts) g 0 < 256) ⌝ }
@@ -36,7 +25,7 @@ impl QuotaTree {
         let mut next = Some(home);
         while let Some(group) = next {
             counts[group.index()] += 1;
-            next = self.above(group);
+            next = self.parent(group);
         }
     }
 

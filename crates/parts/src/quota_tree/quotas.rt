@@ -1,9 +1,9 @@
 // The settings of a quota tree.
 ghost use mathlib.Core.Path.{_≡_};
 ghost use lib.Dec.{leb};
-use super::super::numbers::APPLICATIONS;
-use super::super::numbers::GROUPS;
-use super::super::numbers::Group;
+use crate::numbers::APPLICATIONS;
+use crate::numbers::GROUPS;
+use crate::numbers::Group;
 
 // What is kept of one group: how many members it may have, and the group above it.
 #[derive(Clone, Copy)]
@@ -13,8 +13,8 @@ pub struct Quota {
 }
 
 impl Quota {
-    // What every group starts with: no cap that binds, directly below group 0.
-    pub fn first() -> Quota
+    // What every group starts with: a cap that never binds, and group 0 above it.
+    pub fn at_start() -> Quota
         ensures { λ r. ⌜ r .«cap» ≡ 256 ⌝ ∗ ⌜ r .parent .number ≡ 0 ⌝ }
     {
         Quota {

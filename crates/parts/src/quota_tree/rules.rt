@@ -1,13 +1,13 @@
 // The quota tree as a rule.
 ghost use Rattle.matroid.specs.Trees.{Rooted};
 ghost use Rattle.parts.specs.Quotas.{keeps-quotas, parent-of, quotas-written};
-use super::super::numbers::APPLICATIONS;
-use super::super::numbers::Application;
-use super::super::refusal::Cause;
-use super::super::refusal::WriteRefusal;
-use super::super::rule::Rule;
 use super::QuotaTree;
 use super::quotas::Quotas;
+use crate::numbers::APPLICATIONS;
+use crate::numbers::Application;
+use crate::refusal::Cause;
+use crate::refusal::WriteRefusal;
+use crate::rule::Rule;
 
 pub impl Rule for QuotaTree as QuotaTreeRule {
     type Settings = Quotas;

@@ -1,20 +1,21 @@
 // A quota tree at its start, and what stands in it.
 ghost use mathlib.Core.Path.{_≡_};
+ghost use Rattle.parts.specs.Climbs.{NextUp};
 ghost use Rattle.parts.specs.Quotas.{cap-of, first-quotas, home-of, parent-of};
-use super::super::numbers::APPLICATIONS;
-use super::super::numbers::Application;
-use super::super::numbers::GROUPS;
-use super::super::numbers::Group;
 use super::QuotaTree;
 use super::quotas::Quota;
 use super::quotas::Quotas;
+use crate::numbers::APPLICATIONS;
+use crate::numbers::Application;
+use crate::numbers::GROUPS;
+use crate::numbers::Group;
 
 impl QuotaTree {
     // Every cap at 256, every group directly below group 0, every application at home in group 0.
     pub fn new() -> QuotaTree
         ensures { λ r. ⌜ r .quotas ≡ first-quotas ⌝ }
     {
-        let groups = [Quota::first(); GROUPS];
+        let groups = [Quota::at_start(); GROUPS];
         let homes = [Group::ROOT; APPLICATIONS];
         QuotaTree {
             quotas: Quotas { groups, homes },
@@ -27,11 +28,14 @@ impl QuotaTree {
         self.quotas.groups[group.index()].cap
     }
 
-    // The group above. Group 0 has none, and counts as its own.
-    pub fn parent(&self, group: Group) -> Group
-        ensures { λ r. ⌜ r .number ≡ parent-of (now (self .entry) .quotas) (group .number) ⌝ }
+    // The group directly above; group 0 has none.
+    pub fn parent(&self, group: Group) -> Option<Group>
+        ensures { λ r. ⌜ NextUp (parent-of (now (self .entry) .quotas)) (group .number) r ⌝ }
     {
-        self.quotas.groups[group.index()].parent
+        if group.number() == 0 {
+            return None;
+        }
+        Some(self.quotas.groups[group.index()].parent)
     }
 
     pub fn home(&self, application: Application) -> Group

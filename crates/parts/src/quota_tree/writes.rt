@@ -2,10 +2,10 @@
 ghost use Prim.Native.Nat.{_<_, _≤_};
 ghost use Rattle.parts.specs.Outcomes.{Follows};
 ghost use Rattle.parts.specs.Quotas.{cap-written, home-written, parent-written};
-use super::super::numbers::Group;
-use super::super::refusal::Cause;
-use super::super::refusal::WriteRefusal;
 use super::QuotaTree;
+use crate::numbers::Group;
+use crate::refusal::Cause;
+use crate::refusal::WriteRefusal;
 
 impl QuotaTree {
     // Key g sets the cap of group g.

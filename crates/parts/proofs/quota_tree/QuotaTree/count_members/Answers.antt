@@ -7,7 +7,7 @@ use lib.ListN.{getD}
 use borrow.Author.Needs.{needs}
 use Rattle.std.proofs.shelf.Lists.{getD-read, getD-replicate}
 use Rattle.std.proofs.shelf.Tests.{eq-eqb, ne-eqb, or-from, or-left, or-right}
-use Rattle.matroid.specs.Sets.{Set, _∈_, add, members, _∩_}
+use Rattle.matroid.specs.Sets.{_∈_, add, members, _∩_}
 use Rattle.matroid.specs.Trees.{inside}
 use Rattle.matroid.proofs.Cards.{card-bound, card-none}
 use Rattle.parts.specs.Limits.{groups}

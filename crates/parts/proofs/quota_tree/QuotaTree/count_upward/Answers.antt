@@ -10,7 +10,7 @@ use Rattle.parts.proofs.quota_tree.QuotaTree.count_upward.Needs as need
 pub loop-next-again : need.loop-next-again
 loop-next-again c g below =
     let parents = parent-of (c .args .self .now .quotas) in
-    count-here parents (c .args .self .now .rooted) (c .loop-next .counts) (c .in-Some .group) (c .above-next .result)
-    (c .index .result) (c .index .ensures .0) (search needs) (c .above-next .ensures) g
+    count-here parents (c .args .self .now .rooted) (c .loop-next .counts) (c .in-Some .group) (c .parent-next .result)
+    (c .index .result) (c .index .ensures .0) (search needs) (c .parent-next .ensures) g
     ∙ ap (λ next. getD (c .loop-next .counts) g 0 + cond (ahead parents next g) 1 0) (sym (c .in-Some .is))
     ∙ c .loop-next .inv g below

@@ -1,4 +1,4 @@
-use mathlib.Core.Path.{_∙_, sym, ap}
+use mathlib.Core.Path.{_∙_, ap}
 use lib.Dec.{leb}
 use Rattle.matroid.proofs.Every.{every-same}
 use Rattle.parts.specs.Limits.{groups}
