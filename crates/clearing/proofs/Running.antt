@@ -13,7 +13,7 @@ use Rattle.matroid.specs.Sets.{Set, _∪_, _∖_, members, card}
 use Rattle.matroid.specs.Matroids.{Side, Lawful}
 use Rattle.matroid.specs.Turns.{Turn, Run, start, next, Ends}
 use Rattle.matroid.proofs.Cards.{card-bound}
-use Rattle.matroid.proofs.Rounds.{more-struck, turns-struck}
+use Rattle.matroid.proofs.Runs.{more-struck, turns-struck}
 use Rattle.parts.specs.Limits.{applications}
 use Rattle.clearing.proofs.Rows.{marked-below, no-marks, same-row}
 

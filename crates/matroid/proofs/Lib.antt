@@ -1,6 +1,6 @@
 pub mod Cards
 pub mod Every
 pub mod LaminarCaps
-pub mod Rounds
+pub mod Runs
 pub mod Substitution
 pub mod Trees

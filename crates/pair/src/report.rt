@@ -15,7 +15,7 @@ use std::alloc::Global;
 use std::error::AnyError;
 
 // Clears the round and prints it.
-pub fn show(rt: &LibcRuntime, name: &str, round: &Round) -> Result<(), AnyError> {
+pub(crate) fn show(rt: &LibcRuntime, name: &str, round: &Round) -> Result<(), AnyError> {
     let heap = rt.alloc();
     let live = set_text(heap, &round.live)?;
     println!(rt, "Round {name}: {live} are live.")?;

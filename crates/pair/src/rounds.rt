@@ -17,13 +17,13 @@ struct Write {
 
 // What a side can accept, and what it would rather have.
 #[derive(Drop)]
-pub struct Parts {
+pub(crate) struct Parts {
     pub quotas: QuotaTree,
     pub ranks: RankList,
 }
 
 #[derive(Drop)]
-pub struct Round {
+pub(crate) struct Round {
     pub one: Parts,
     pub two: Parts,
     pub live: [bool; APPLICATIONS],
@@ -87,7 +87,7 @@ fn four_live() -> [bool; APPLICATIONS] {
     live
 }
 
-pub fn pair() -> Result<Round, WriteRefusal> {
+pub(crate) fn pair() -> Result<Round, WriteRefusal> {
     Ok(Round {
         one: side_parts(&ONE_OF_EACH_APPLICANT, &PAIR_RANKS)?,
         two: side_parts(&ONE_AT_EACH_COLLEGE, &COLLEGE_RANKS)?,
@@ -96,7 +96,7 @@ pub fn pair() -> Result<Round, WriteRefusal> {
 }
 
 // As `pair`, but side one ranks by number.
-pub fn rush() -> Result<Round, WriteRefusal> {
+pub(crate) fn rush() -> Result<Round, WriteRefusal> {
     Ok(Round {
         one: side_parts(&ONE_OF_EACH_APPLICANT, &[])?,
         two: side_parts(&ONE_AT_EACH_COLLEGE, &COLLEGE_RANKS)?,

@@ -1,6 +1,6 @@
 use native.Mathlib.Omega.{arith}
 use Rattle.matroid.specs.Matroids.{Lawful}
-use Rattle.matroid.proofs.Rounds.{turns-bounded}
+use Rattle.matroid.proofs.Runs.{turns-bounded}
 use Rattle.std.proofs.shelf.Tests.{both-ways}
 use Rattle.parts.specs.Limits.{applications}
 use Rattle.clearing.specs.Sides.{side-of}
