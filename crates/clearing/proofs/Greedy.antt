@@ -27,7 +27,7 @@ pub record Chosen (side : Side) (row : List Application) (offered kept : Set) (u
   pub ahead : (i : ℕ) → until ≤ i → i < applications → number-at row i ∉ kept
 
 -- a mark set adds a member
-pub mark-adds : (row : List Bool) (x : ℕ) → x < length row → members (set row x true) ≡ add (members row) x
+mark-adds : (row : List Bool) (x : ℕ) → x < length row → members (set row x true) ≡ add (members row) x
 mark-adds row x h = fun-ext (λ y. elim (cases-eq y x) [
   | inl e ↦ rw e (getD-set-same row x true false h ∙ sym (add-here (members row) x))
   | inr ne ↦ getD-set-other row x y true false ne ∙ sym (add-other (members row) x y ne)

@@ -30,7 +30,7 @@ module _ (parents : ℕ → ℕ) (rooted : Rooted parents) where
   ]
 
   -- more steps than h change nothing
-  pub climbs-enough : (steps h g : ℕ) → h ≤ steps → climbs parents steps h g ≡ inside parents h g
+  climbs-enough : (steps h g : ℕ) → h ≤ steps → climbs parents steps h g ≡ inside parents h g
   climbs-enough steps h g enough = climbs-same steps h h g enough (omega arith)
 
   pub inside-step : (h g : ℕ) → inside parents h g ≡ (eqb h g || (ltb 0 h && inside parents (parents h) g))
@@ -41,7 +41,7 @@ module _ (parents : ℕ → ℕ) (rooted : Rooted parents) where
       ap (λ b. eqb (suc h) g || (ltb 0 (suc h) && b)) (climbs-enough h (parents (suc h)) g (omega arith))
 
   -- the two ways to lie inside g
-  pub inside-cases : (h g : ℕ) → inside parents h g ≡ true → (h ≡ g) ⊎ ((0 < h) × (inside parents (parents h) g ≡ true))
+  inside-cases : (h g : ℕ) → inside parents h g ≡ true → (h ≡ g) ⊎ ((0 < h) × (inside parents (parents h) g ≡ true))
   inside-cases h g within = elim (or-cases (eqb h g) (ltb 0 h && inside parents (parents h) g) (sym (inside-step h g) ∙ within)) [
     | inl same ↦ inl (eqb-true h g same)
     | inr up ↦ let both = and-parts (ltb 0 h) (inside parents (parents h) g) up in inr (ltb-true 0 h (both .0), both .1)
@@ -50,7 +50,7 @@ module _ (parents : ℕ → ℕ) (rooted : Rooted parents) where
   pub inside-self : (h : ℕ) → inside parents h h ≡ true
   inside-self h = inside-step h h ∙ or-left (eqb h h) (ltb 0 h && inside parents (parents h) h) (eq-eqb h h refl)
 
-  pub inside-up : (h g : ℕ) → 0 < h → inside parents (parents h) g ≡ true → inside parents h g ≡ true
+  inside-up : (h g : ℕ) → 0 < h → inside parents (parents h) g ≡ true → inside parents h g ≡ true
   inside-up h g l up = inside-step h g
       ∙ or-right (eqb h g) (ltb 0 h && inside parents (parents h) g) (and-from (ltb 0 h) (inside parents (parents h) g) (lt-ltb 0 h l) up)
 
@@ -60,14 +60,8 @@ module _ (parents : ℕ → ℕ) (rooted : Rooted parents) where
   up-to P step (suc bound) h l = step h (λ pos. let low = rooted h pos in up-to P step bound (parents h) (omega arith))
 
   -- induction on the way up
-  pub by-parents : (P : ℕ → Type 0) → ((h : ℕ) → (0 < h → P (parents h)) → P h) → (h : ℕ) → P h
+  by-parents : (P : ℕ → Type 0) → ((h : ℕ) → (0 < h → P (parents h)) → P h) → (h : ℕ) → P h
   by-parents P step h = up-to P step h h (omega arith)
-
-  pub inside-root : (h : ℕ) → inside parents h 0 ≡ true
-  inside-root = by-parents (λ h. inside parents h 0 ≡ true) (λ h above. elim (cases-lt 0 h) [
-    | inl pos ↦ inside-up h 0 pos (above pos)
-    | inr root ↦ let z : h ≡ 0 = omega arith in rw z (inside-self 0)
-  ])
 
   pub inside-small : (h g : ℕ) → inside parents h g ≡ true → g ≤ h
   inside-small h g = by-parents (λ h. inside parents h g ≡ true → g ≤ h) (λ h above within. elim (inside-cases h g within) [
@@ -76,7 +70,7 @@ module _ (parents : ℕ → ℕ) (rooted : Rooted parents) where
   ]) h
 
   -- of two groups that h lies inside, the one of larger number lies inside the other
-  pub inside-between : (h g k : ℕ) → inside parents h g ≡ true → inside parents h k ≡ true → k < g → inside parents g k ≡ true
+  inside-between : (h g k : ℕ) → inside parents h g ≡ true → inside parents h k ≡ true → k < g → inside parents g k ≡ true
   inside-between h g k inG inK less = by-parents
       (λ h. inside parents h g ≡ true → inside parents h k ≡ true → inside parents g k ≡ true)
       (λ h above inG inK. elim (inside-cases h g inG) [
@@ -88,7 +82,7 @@ module _ (parents : ℕ → ℕ) (rooted : Rooted parents) where
       ])
       h inG inK
 
-  pub inside-through : (h g k : ℕ) → inside parents h g ≡ true → inside parents g k ≡ true → inside parents h k ≡ true
+  inside-through : (h g k : ℕ) → inside parents h g ≡ true → inside parents g k ≡ true → inside parents h k ≡ true
   inside-through h g k inG onward = by-parents
       (λ h. inside parents h g ≡ true → inside parents h k ≡ true)
       (λ h above inG. elim (inside-cases h g inG) [

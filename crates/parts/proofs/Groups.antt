@@ -22,11 +22,11 @@ use Rattle.parts.specs.Outcomes.{Outcome, accepted, refused, Follows}
 use Rattle.parts.specs.Quotas.{numbered, first-quota, first-quotas, cap-written, group-of, home-written, parent-of, parent-written, quotas-written, root, with-home, with-parent}
 use Rattle.std.specs.declared.result.Result.the-variants.{Ok}
 
-pub same-group : (g h : Group) → g .number ≡ h .number → g ≡ h
+same-group : (g h : Group) → g .number ≡ h .number → g ≡ h
 same-group g h e i = record { number = e i; within = isProp→PathP (λ j. e j < 128) (λ j. le-prop) (g .within) (h .within) i }
 
 -- `group-of` gives the group of every number below 128
-pub number-again : (n : ℕ) → n < 128 → group-of n .number ≡ n
+number-again : (n : ℕ) → n < 128 → group-of n .number ≡ n
 number-again n within = elim (decLt n 128) as (λ d. numbered n d .number ≡ n) [ yes w ↦ refl | no beyond ↦ absurd (beyond within) ]
 
 -- a group that has the number is the group of the number

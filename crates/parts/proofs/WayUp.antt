@@ -37,23 +37,19 @@ module _ (parents : ℕ → ℕ) (rooted : Rooted parents) where
       ∙ ap (λ b. b && inside parents (parents h) g) is
 
   -- past group h every other group is ahead exactly if it was
-  pub ahead-other : (h : Group) (next : Option Group) → NextUp parents (h .number) next → (g : ℕ) → (g ≡ h .number → ⊥)
+  ahead-other : (h : Group) (next : Option Group) → NextUp parents (h .number) next → (g : ℕ) → (g ≡ h .number → ⊥)
       → ahead parents next g ≡ ahead parents (Some h) g
   ahead-other h None top g other = sym (step-at (h .number) g false (le-ltb 0 (h .number) (omega arith)) other)
   ahead-other h (Some p) up g other =
       ap (λ n. inside parents n g) (up .1) ∙ sym (step-at (h .number) g true (lt-ltb 0 (h .number) (up .0)) other)
 
   -- and group h is behind
-  pub ahead-none : (h : Group) (next : Option Group) → NextUp parents (h .number) next → ahead parents next (h .number) ≡ false
+  ahead-none : (h : Group) (next : Option Group) → NextUp parents (h .number) next → ahead parents next (h .number) ≡ false
   ahead-none h None top = refl
   ahead-none h (Some p) up = elim (cases-bool (inside parents (p .number) (h .number))) [
     | inl back ↦ absurd (omega (arith, inside-small parents rooted (p .number) (h .number) back, rooted (h .number) (up .0)))
     | inr none ↦ none
   ]
-
-  pub less-left : (h : Group) (next : Option Group) → NextUp parents (h .number) next → left next < left (Some h)
-  less-left h None top = omega arith
-  less-left h (Some p) up = omega (arith, rooted (h .number) (up .0))
 
   -- one member more for group h: what is counted and what is ahead come to the same as before
   pub count-here : (counts : List ℕ) (h : Group) (next : Option Group) (at : ℕ) → at ≡ h .number → at < length counts

@@ -2,6 +2,7 @@
 ghost use mathlib.Core.Path.{_≡_};
 ghost use Prim.Native.Nat.{_<_, _≤_};
 ghost use lib.Dec.{ltb};
+ghost use Rattle.parts.specs.Limits.{applications, groups};
 ghost use Rattle.std.specs.Options.{Cases as BySome};
 
 // How many application numbers there are.
@@ -32,7 +33,7 @@ impl Application {
 
     // Its place in a row of marks.
     pub fn index(self) -> usize
-        ensures { λ r. ⌜ r ≡ self .0 ⌝ ∗ ⌜ r < 256 ⌝ }
+        ensures { λ r. ⌜ r ≡ self .0 ⌝ ∗ ⌜ r < applications ⌝ }
     {
         usize::from(self.0)
     }
@@ -70,7 +71,7 @@ impl Group {
 
     // Its place in the table of groups.
     pub fn index(self) -> usize
-        ensures { λ r. ⌜ r ≡ self .number ⌝ ∗ ⌜ r < 128 ⌝ }
+        ensures { λ r. ⌜ r ≡ self .number ⌝ ∗ ⌜ r < groups ⌝ }
     {
         usize::from(self.number)
     }

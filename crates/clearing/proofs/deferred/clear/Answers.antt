@@ -1,4 +1,9 @@
+use mathlib.Core.Bool.{Bool}
+use mathlib.Core.List.{List}
+use mathlib.Core.Path.{_≡_}
+use Prim.Native.Nat.{ℕ, _≤_}
 use native.Mathlib.Omega.{arith}
+use lib.ListN.{length}
 use Rattle.matroid.specs.Matroids.{Lawful}
 use Rattle.matroid.proofs.Runs.{turns-bounded}
 use Rattle.std.proofs.shelf.Tests.{both-ways}
@@ -6,7 +11,7 @@ use Rattle.parts.specs.Limits.{applications}
 use Rattle.clearing.specs.Sides.{side-of}
 use Rattle.clearing.specs.declared.side.Side as code
 use Rattle.clearing.proofs.Rows.{marked-below}
-use Rattle.clearing.proofs.Running.{ends-with, running-ends, running-few, running-first, running-less, running-next}
+use Rattle.clearing.proofs.Running.{ends-with, Running, running-ends, running-few, running-first, running-less, running-next}
 use Rattle.clearing.proofs.deferred.clear.Given as given
 use Rattle.clearing.proofs.deferred.clear.Needs as need
 
@@ -23,16 +28,18 @@ lawful-two g side = record {
   order = g .K2·Ranking·met .order _ (g .K2·Ranking·met .«settings_sound» (side .ranking .now));
 }
 
+-- so the turns so far are few, and one more can be counted
+few-turns : (g : given.Over) (one : code.Side (g .R1 .Denot) (g .K1 .Denot) _ _) (two : code.Side (g .R2 .Denot) (g .K2 .Denot) _ _)
+    (live struck : List Bool) (before : ℕ) → length live ≡ applications
+    → Running (side-of (g .R1·Rule) (g .K1·Ranking) one) (side-of (g .R2·Rule) (g .K2·Ranking) two) live struck before
+    → before ≤ applications
+few-turns g one two live struck before = running-few _ _ live struck before (lawful-one g one) (lawful-two g two)
+
 pub loop-first-holds : need.loop-first-holds
 loop-first-holds g c = running-first _ _ (c .args .live .now)
 
 pub after-requires : need.after-requires
-after-requires g c κs = omega (
-  arith,
-  running-few _ _ (c .args .live .now) (c .loop-first .struck) (c .loop-first .before)
-      (lawful-one g (c .args .one .now))
-      (lawful-two g (c .args .two .now)) (c .told-live) (c .loop-first .inv),
-)
+after-requires g c κs = omega (arith, few-turns g (c .args .one .now) (c .args .two .now) _ _ _ (c .told-live) (c .loop-first .inv))
 
 pub returns-then-is-last : need.returns-then-is-last
 returns-then-is-last g c =
@@ -48,12 +55,7 @@ returns-then-is-last g c =
     }
 
 pub add-before : need.add-before
-add-before g c = omega (
-  arith,
-  running-few _ _ (c .args .live .now) (c .loop-first .struck) (c .loop-first .before)
-      (lawful-one g (c .args .one .now))
-      (lawful-two g (c .args .two .now)) (c .told-live) (c .loop-first .inv),
-)
+add-before g c = omega (arith, few-turns g (c .args .one .now) (c .args .two .now) _ _ _ (c .told-live) (c .loop-first .inv))
 
 pub loop-first-less : need.loop-first-less
 loop-first-less g c =
