@@ -5,7 +5,7 @@ use mathlib.Core.Bool.{Bool, true, false}
 use Prim.Native.Nat.{ℕ, zero, suc, _<_}
 use native.Mathlib.Omega.{arith}
 use Rattle.std.proofs.shelf.Tests.{and-parts, and-from, both-ways, cases-bool, cases-eq}
-use Rattle.matroid.specs.Laminar.{every}
+use Rattle.matroid.specs.Tests.{every}
 
 pub every-at : (m : ℕ) (test : ℕ → Bool) → every m test ≡ true → (g : ℕ) → g < m → test g ≡ true
 unfolding every

@@ -1,14 +1,10 @@
 -- Caps over a laminar family of groups. Assumes nothing.
 use mathlib.Core.Logic.{_⊎_}
-use mathlib.Core.Bool.{Bool, true, _&&_}
-use Prim.Native.Nat.{ℕ, zero, suc, _<_}
+use mathlib.Core.Bool.{Bool}
+use Prim.Native.Nat.{ℕ, _<_}
 use lib.Dec.{leb}
 use Rattle.matroid.specs.Sets.{Set, _∈_, _∉_, _⊆_, _∩_, card}
-
--- the test passes at every number below n
-unfoldable pub every : ℕ → (ℕ → Bool) → Bool
-every zero test = true
-every (suc n) test = every n test && test n
+use Rattle.matroid.specs.Tests.{every}
 
 -- no group below m has more members of S, counted below n, than its cap
 abbrev pub within-caps : (n m : ℕ) (group : ℕ → Set) (caps : ℕ → ℕ) → Set → Bool

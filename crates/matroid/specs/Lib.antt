@@ -1,7 +1,10 @@
 pub mod Sets
+pub mod Tests
 pub mod Matroids
 pub mod Choices
 pub mod Turns
 pub mod Laminar
 pub mod Trees
+pub mod Assignments
+pub mod Truncations
 pub mod Theorems

@@ -1,9 +1,9 @@
 // The two rounds: four applications under two quota trees and two rank lists, set up by writes.
 use parts::numbers::APPLICATIONS;
-use parts::quota_tree::QuotaTree;
-use parts::quota_tree::QuotaTreeRule;
-use parts::rank_list::RankList;
-use parts::rank_list::RankListRanking;
+use quotas::quota_tree::QuotaTree;
+use quotas::quota_tree::QuotaTreeRule;
+use rankings::rank_list::RankList;
+use rankings::rank_list::RankListRanking;
 use parts::ranking::Ranking;
 use parts::refusal::WriteRefusal;
 use parts::rule::Rule;

@@ -8,3 +8,7 @@ applications = 256
 -- how many quota groups there are
 abbrev pub groups : ℕ
 groups = 128
+
+-- how many places there are
+abbrev pub places : ℕ
+places = 32

@@ -1,8 +1,6 @@
-// The parts of a clearing: numbers, the interfaces of a rule and of a ranking, and the supplied parts.
-pub mod laws;
+// What a part is: the numbers, the interfaces of a rule and of a ranking, and refused writes; and
+// the layer that works over any rule.
 pub mod numbers;
-pub mod quota_tree;
-pub mod rank_list;
 pub mod ranking;
 pub mod refusal;
 pub mod rule;

@@ -1,5 +1,0 @@
-pub mod Counting
-pub mod Groups
-pub mod QuotaLaws
-pub mod Ranks
-pub mod WayUp

@@ -1,0 +1,4 @@
+pub mod Counting
+pub mod Groups
+pub mod QuotaLaws
+pub mod WayUp

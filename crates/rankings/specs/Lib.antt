@@ -1,0 +1,3 @@
+pub mod Holders
+pub mod Laws
+pub mod Ranks

@@ -1,0 +1,3 @@
+// The supplied rankings.
+pub mod laws;
+pub mod rank_list;
