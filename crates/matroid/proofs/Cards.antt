@@ -1,6 +1,6 @@
 -- How many members a set has below n: of equal sets as many, of a part no more, with one new
 -- member one more, never more than n, and in two parts together as many as in the whole. Assumes nothing.
-use mathlib.Core.Path.{_≡_, refl, sym, ap}
+use mathlib.Core.Path.{_≡_, refl, sym, ap, _∙_}
 use mathlib.Core.Logic.{_⊎_, inl, inr}
 use mathlib.Core.Bool.{Bool, true, false, not, cond, _&&_, _||_}
 use Prim.Native.Nat.{ℕ, zero, suc, _+_, _≤_, _<_}
@@ -139,3 +139,7 @@ card-none S = refl
 pub card-more : (n : ℕ) (S : Set) → card (n + 1) S ≡ card n S + cond (S n) 1 0
 unfolding card
 card-more n S = ap (λ m. card m S) (add-one n)
+
+pub card-next : (n : ℕ) (S : Set) (b : Bool) (count : ℕ) → count ≡ card n S → S n ≡ b → count + cond b 1 0 ≡ card (n + 1) S
+card-next n S b count so-far here =
+    ap (λ m. m + cond b 1 0) so-far ∙ ap (λ h. card n S + cond h 1 0) (sym here) ∙ sym (card-more n S)

@@ -4,3 +4,7 @@ pub mod LaminarCaps
 pub mod Runs
 pub mod Substitution
 pub mod Trees
+pub mod Pigeonhole
+pub mod Assignments
+pub mod Transversals
+pub mod Truncations
