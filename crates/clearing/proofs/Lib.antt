@@ -1,4 +1,3 @@
 pub mod Greedy
-pub mod Rows
 pub mod Running
 pub mod Selection

@@ -15,7 +15,7 @@ use Rattle.matroid.specs.Turns.{Turn, Run, start, next, Ends}
 use Rattle.matroid.proofs.Cards.{card-bound}
 use Rattle.matroid.proofs.Runs.{more-struck, turns-struck}
 use Rattle.parts.specs.Limits.{applications}
-use Rattle.clearing.proofs.Rows.{marked-below, no-marks, same-row}
+use Rattle.parts.proofs.Rows.{marked-below, no-marks, same-row}
 
 -- one turn, by what was made of the sets on the way
 pub turn-made : (one two : Side) (live struck unstruck offered shown kept struck′ : Set) → unstruck ≡ live ∖ struck

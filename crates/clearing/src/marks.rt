@@ -1,4 +1,4 @@
-// Sets of applications, as rows of marks.
+// Two rows of marks, one for each application: what they have together.
 ghost use mathlib.Core.Path.{_≡_};
 ghost use Rattle.std.specs.Orderings.{Decides};
 ghost use Rattle.matroid.specs.Sets.{members, _∪_, _∖_};

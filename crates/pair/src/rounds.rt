@@ -1,12 +1,12 @@
 // The two rounds: four applications under two quota trees and two rank lists, set up by writes.
 use parts::numbers::APPLICATIONS;
+use parts::ranking::Ranking;
+use parts::refusal::WriteRefusal;
+use parts::rule::Rule;
 use quotas::quota_tree::QuotaTree;
 use quotas::quota_tree::QuotaTreeRule;
 use rankings::rank_list::RankList;
 use rankings::rank_list::RankListRanking;
-use parts::ranking::Ranking;
-use parts::refusal::WriteRefusal;
-use parts::rule::Rule;
 
 // A value to be put under a key.
 #[derive(Clone, Copy)]

@@ -1,2 +1,4 @@
+pub mod Laws
 pub mod Limits
 pub mod Outcomes
+pub mod Truncations

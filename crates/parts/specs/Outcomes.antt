@@ -1,7 +1,7 @@
 -- What a write to a part comes to. Assumes nothing.
 use mathlib.Core.Path.{_≡_}
 use mathlib.Core.List.{List, _++_}
-use Prim.Native.Nat.{ℕ}
+use Prim.Native.Nat.{ℕ, _+_, min}
 use lib.Chars.{codes}
 use Rattle.std.specs.declared.result.Result.{Result}
 use Rattle.std.specs.declared.result.Result.the-variants.{Ok, Err}
@@ -30,6 +30,11 @@ refusal-text refusal =
 -- the refusal of the part that was written to: no layer lies above it
 abbrev pub refusal-here : Cause → ℕ → WriteRefusal
 refusal-here cause key = record { cause = cause; depth = 0; key = key }
+
+-- the refusal of the part below, as a layer passes it up: cause and key stay, the depth is one more,
+-- and 65,535, the largest number of 16 bits, is raised no further
+abbrev pub refusal-above : WriteRefusal → WriteRefusal
+refusal-above refusal = record { cause = refusal .cause; depth = min (refusal .depth + 1) 65535; key = refusal .key }
 
 -- What a part's settings make of a write: it is accepted, with the settings after it, or refused.
 pub data Outcome (Settings : Type 0) : Type 0 where

@@ -2,7 +2,7 @@
 ghost use mathlib.Core.Path.{_≡_};
 ghost use Prim.Native.Nat.{_<_, _≤_};
 ghost use lib.Dec.{ltb};
-ghost use Rattle.parts.specs.Limits.{applications, groups};
+ghost use Rattle.parts.specs.Limits.{applications, groups, places};
 ghost use Rattle.std.specs.Options.{Cases as BySome};
 
 // How many application numbers there are.
@@ -107,5 +107,12 @@ impl Place {
         ensures { λ r. ⌜ r ≡ self .seat ⌝ }
     {
         self.seat
+    }
+
+    // Its place in a table of places.
+    pub fn index(self) -> usize
+        ensures { λ r. ⌜ r ≡ self .seat ⌝ ∗ ⌜ r < places ⌝ }
+    {
+        usize::from(self.seat)
     }
 }

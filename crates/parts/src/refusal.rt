@@ -1,6 +1,6 @@
 // Why a part refuses a write.
 ghost use mathlib.Core.Path.{_≡_};
-ghost use Rattle.parts.specs.Outcomes.{cause-number, cause-text, refusal-here, refusal-text};
+ghost use Rattle.parts.specs.Outcomes.{cause-number, cause-text, refusal-above, refusal-here, refusal-text};
 ghost use Rattle.std.specs.declared.option.Option.the-variants.{Some};
 use std::error::Error;
 use std::fmt;
@@ -28,7 +28,7 @@ impl Cause {
     }
 }
 
-// A refused write: its cause, the number of layers above the part that refused, and the key that this part received.
+// A refused write: its cause, the number of layers above the part that refused, and the key that that part received.
 #[derive(Clone, Copy, PartialEq, Eq, Debug)]
 pub struct WriteRefusal {
     pub cause: Cause,
@@ -45,6 +45,17 @@ impl WriteRefusal {
             cause,
             depth: 0,
             key,
+        }
+    }
+
+    // The refusal of the part below, as a layer passes it up: one layer more lies above that part.
+    pub fn from_below(self) -> WriteRefusal
+        ensures { λ r. ⌜ r ≡ refusal-above self ⌝ }
+    {
+        WriteRefusal {
+            cause: self.cause,
+            depth: self.depth.saturating_add(1),
+            key: self.key,
         }
     }
 }

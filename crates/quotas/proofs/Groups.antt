@@ -18,7 +18,8 @@ use Rattle.parts.specs.declared.numbers.Group.{Group}
 use Rattle.quotas.specs.declared.quota_tree.quotas.Quota.{Quota}
 use Rattle.quotas.specs.declared.quota_tree.quotas.Quotas.{Quotas}
 use Rattle.parts.specs.Limits.{applications, groups}
-use Rattle.parts.specs.Outcomes.{Outcome, accepted, refused, Follows}
+use Rattle.parts.specs.Outcomes.{Outcome, accepted, Follows}
+use Rattle.parts.proofs.Outcomes.{Keeps, accepted-sound}
 use Rattle.quotas.specs.Quotas.{numbered, first-quota, first-quotas, cap-written, group-of, home-written, parent-of, parent-written, quotas-written, root, with-home, with-parent}
 use Rattle.std.specs.declared.result.Result.the-variants.{Ok}
 
@@ -101,32 +102,31 @@ parent-put q key value place parent old at is smaller old-is =
     ∙ ap₂ (with-parent q) at (group-is parent value is))
 
 -- an outcome keeps parents smaller
-abbrev Keeps : Outcome Quotas → Type 0
-Keeps (accepted new) = Rooted (parent-of new)
-Keeps (refused why) = Unit {0}
+abbrev KeepsRooted : Outcome Quotas → Type 0
+KeepsRooted = Keeps (λ q. Rooted (parent-of q))
 
 module _ (q : Quotas) (rooted : Rooted (parent-of q)) (key value : ℕ) where
-  cap-keeps : Keeps (cap-written q key value)
-  cap-keeps = cond-both (leb value 256) _ _ Keeps
+  cap-keeps : KeepsRooted (cap-written q key value)
+  cap-keeps = cond-both (leb value 256) _ _ KeepsRooted
       (λ _. rooted-set (q .groups) key _ rooted (rooted-at (q .groups) key (getD (q .groups) key first-quota) rooted refl)) (λ _. tt)
 
-  parent-keeps : Keeps (parent-written q key value)
-  parent-keeps = cond-both (leb value 127) _ _ Keeps
-      (λ low. cond-both (ltb value (key - 128)) _ _ Keeps
+  parent-keeps : KeepsRooted (parent-written q key value)
+  parent-keeps = cond-both (leb value 127) _ _ KeepsRooted
+      (λ low. cond-both (ltb value (key - 128)) _ _ KeepsRooted
       (λ small. rooted-set (q .groups) (key - 128) _ rooted (λ above.
       subst (λ n. n < key - 128) (sym (number-again value (omega (arith, leb-true value 127 low)))) (ltb-true value (key - 128) small)))
       (λ _. tt))
       (λ _. tt)
 
-  home-keeps : Keeps (home-written q key value)
-  home-keeps = cond-both (leb value 127) _ _ Keeps (λ _. rooted) (λ _. tt)
+  home-keeps : KeepsRooted (home-written q key value)
+  home-keeps = cond-both (leb value 127) _ _ KeepsRooted (λ _. rooted) (λ _. tt)
 
-  written-keeps : Keeps (quotas-written q key value)
-  written-keeps = cond-both (ltb key 128) _ _ Keeps (λ _. cap-keeps)
-      (λ _. cond-both (ltb 128 key && ltb key 256) _ _ Keeps (λ _. parent-keeps)
-      (λ _. cond-both (leb 256 key && ltb key 512) _ _ Keeps (λ _. home-keeps) (λ _. tt)))
+  written-keeps : KeepsRooted (quotas-written q key value)
+  written-keeps = cond-both (ltb key 128) _ _ KeepsRooted (λ _. cap-keeps)
+      (λ _. cond-both (ltb 128 key && ltb key 256) _ _ KeepsRooted (λ _. parent-keeps)
+      (λ _. cond-both (leb 256 key && ltb key 512) _ _ KeepsRooted (λ _. home-keeps) (λ _. tt)))
 
 -- an accepted write keeps parents smaller
 pub written-rooted : (q new : Quotas) (key value : ℕ) → Rooted (parent-of q) → quotas-written q key value ≡ accepted new
     → Rooted (parent-of new)
-written-rooted q new key value rooted e = subst Keeps e (written-keeps q rooted key value)
+written-rooted q new key value rooted = accepted-sound (λ s. Rooted (parent-of s)) _ new (written-keeps q rooted key value)

@@ -1,4 +1,3 @@
-pub mod Counting
 pub mod Groups
 pub mod QuotaLaws
 pub mod WayUp

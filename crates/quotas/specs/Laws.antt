@@ -1,17 +1,20 @@
--- What is proved of a quota tree, whatever was written to it. Assumes nothing.
+-- What is proved of a quota tree, whatever was written to it. A statement takes the meaning that the
+-- tree's implementation gives to its settings. Assumes nothing.
 use Prim.Native.Nat.{ℕ, _<_, _≤_}
 use Rattle.std.specs.Orderings.{Decides}
 use Rattle.matroid.specs.Matroids.{Matroid}
 use Rattle.matroid.specs.Sets.{Set, card, _∩_}
 use Rattle.parts.specs.Limits.{applications, groups}
-use Rattle.quotas.specs.Quotas.{belonging, cap-of, keeps-quotas}
+use Rattle.parts.specs.declared.rule.Rule as rule
+use Rattle.quotas.specs.Quotas.{belonging, cap-of}
 use Rattle.quotas.specs.declared.quota_tree.QuotaTree.{QuotaTree}
+use Rattle.quotas.specs.declared.quota_tree.quotas.Quotas.{Quotas}
 
 -- A set is independent exactly when no group has more of its members than the group's cap.
-abbrev pub Quotas-are-caps : Type 0
-Quotas-are-caps = (tree : QuotaTree) (S : Set)
-    → Decides (keeps-quotas (tree .quotas) S) ((g : ℕ) → g < groups → card applications (S ∩ belonging (tree .quotas) g) ≤ cap-of (tree .quotas) g)
+abbrev pub Quotas-are-caps : rule.Ghosts QuotaTree Quotas → Type 0
+Quotas-are-caps means = (tree : QuotaTree) (S : Set) → Decides (means .independent (means .settings tree) S)
+    ((g : ℕ) → g < groups → card applications (S ∩ belonging (tree .quotas) g) ≤ cap-of (tree .quotas) g)
 
 -- The independent sets of a quota tree are those of a matroid.
-abbrev pub Quota-trees-are-matroids : Type 0
-Quota-trees-are-matroids = (tree : QuotaTree) → Matroid applications (keeps-quotas (tree .quotas))
+abbrev pub Quota-trees-are-matroids : rule.Ghosts QuotaTree Quotas → Type 0
+Quota-trees-are-matroids means = (tree : QuotaTree) → Matroid applications (means .independent (means .settings tree))

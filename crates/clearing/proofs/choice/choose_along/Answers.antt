@@ -5,7 +5,7 @@ use native.Mathlib.Omega.{arith}
 use Rattle.matroid.specs.Sets.{members}
 use Rattle.clearing.specs.Sides.{rule-by}
 use Rattle.clearing.proofs.Greedy.{Chosen, chosen-none, chosen-all, mark-left, mark-set}
-use Rattle.clearing.proofs.Rows.{marked-below, no-marks}
+use Rattle.parts.proofs.Rows.{marked-below, no-marks}
 use Rattle.clearing.proofs.choice.choose_along.Needs as need
 use Rattle.clearing.proofs.choice.choose_along.Needs.{then-offered-mark·then-allows, else-offered-mark}
 use Rattle.clearing.proofs.choice.choose_along.Needs.{else-offered-mark·by·then-offered-mark·else-allows, else-offered-mark·by·else-offered-mark}

@@ -10,7 +10,7 @@ use Rattle.std.proofs.shelf.Tests.{both-ways}
 use Rattle.parts.specs.Limits.{applications}
 use Rattle.clearing.specs.Sides.{side-of}
 use Rattle.clearing.specs.declared.side.Side as code
-use Rattle.clearing.proofs.Rows.{marked-below}
+use Rattle.parts.proofs.Rows.{marked-below}
 use Rattle.clearing.proofs.Running.{ends-with, Running, running-ends, running-few, running-first, running-less, running-next}
 use Rattle.clearing.proofs.deferred.clear.Given as given
 use Rattle.clearing.proofs.deferred.clear.Needs as need

@@ -1,7 +1,7 @@
 use native.Mathlib.Omega.{arith}
 use Rattle.std.proofs.shelf.Tests.{and-left}
 use Rattle.matroid.specs.Sets.{members, _∖_}
-use Rattle.clearing.proofs.Rows.{row-of, unmarked-past}
+use Rattle.parts.proofs.Rows.{row-of, unmarked-past}
 use Rattle.clearing.proofs.marks.without.Needs as need
 
 pub returns : need.returns

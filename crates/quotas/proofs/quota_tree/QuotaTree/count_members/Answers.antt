@@ -1,6 +1,7 @@
 use mathlib.Core.Path.{_≡_, sym, _∙_, ap}
-use mathlib.Core.Bool.{cond}
+use mathlib.Core.Bool.{false, cond, _&&_}
 use Prim.Native.Nat.{_+_}
+use native.Mathlib.Nat.{add-zero}
 use native.Mathlib.Omega.{arith}
 use lib.Dec.{eqb}
 use lib.ListN.{getD}
@@ -9,11 +10,10 @@ use Rattle.std.proofs.shelf.Lists.{getD-read, getD-replicate}
 use Rattle.std.proofs.shelf.Tests.{eq-eqb, ne-eqb, or-from, or-left, or-right}
 use Rattle.matroid.specs.Sets.{_∈_, add, members, _∩_}
 use Rattle.matroid.specs.Trees.{inside}
-use Rattle.matroid.proofs.Cards.{card-bound, card-none}
+use Rattle.matroid.proofs.Cards.{card-bound, card-next, card-none}
 use Rattle.parts.specs.Limits.{groups}
 use Rattle.quotas.specs.Quotas.{belonging, parent-of, root}
 use Rattle.parts.specs.declared.numbers.Group.{Group}
-use Rattle.quotas.proofs.Counting.{count-member, count-other}
 use Rattle.quotas.proofs.quota_tree.QuotaTree.count_members.Needs as need
 use Rattle.quotas.proofs.quota_tree.QuotaTree.count_members.Needs.{then-mark, then-mark·by·then-mark, then-mark·by·else-mark·then-c-index, else-mark·else-c-index}
 
@@ -40,9 +40,11 @@ loop-c-again c g below =
           ap (λ counts. getD counts g 0) (w .counts-is)
           ∙ w .count-upward .ensures g below
           ∙ ap (λ (home : Group). getD (c .loop-c .counts) g 0 + cond (inside (parent-of quotas) (home .number) g) 1 0) (sym (w .index-self-c .is) ∙ read)
-          ∙ count-member (add marks asked) (belonging quotas g) at (getD (c .loop-c .counts) g 0) (c .loop-c .inv g below) member
+          ∙ card-next at (add marks asked ∩ belonging quotas g) (belonging quotas g at) (getD (c .loop-c .counts) g 0) (c .loop-c .inv g below)
+          (ap (λ b. b && belonging quotas g at) member)
       | else-mark·else-c-index w ↦
           ap (λ counts. getD counts g 0) (w .counts-is)
-          ∙ count-other (add marks asked) (belonging quotas g) at (getD (c .loop-c .counts) g 0) (c .loop-c .inv g below)
-          (or-from (marks at) (eqb at asked) (w .if-mark .left) (ne-eqb at asked (λ e. w .if-c-index .left (e ∙ sym (w .index .ensures .0)))))
+          ∙ sym (add-zero (getD (c .loop-c .counts) g 0))
+          ∙ card-next at (add marks asked ∩ belonging quotas g) false (getD (c .loop-c .counts) g 0) (c .loop-c .inv g below)
+          (ap (λ b. b && belonging quotas g at) (or-from (marks at) (eqb at asked) (w .if-mark .left) (ne-eqb at asked (λ e. w .if-c-index .left (e ∙ sym (w .index .ensures .0))))))
     ]
