@@ -1,3 +1,4 @@
 pub mod Holders
 pub mod Laws
 pub mod Ranks
+pub mod Scores

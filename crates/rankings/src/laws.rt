@@ -1,8 +1,26 @@
 // What is proved of the supplied rankings, whatever was written to them. Each function stands for a
 // theorem: it does nothing, and its contract is what is proved.
-ghost use Rattle.rankings.specs.Laws.{Rank-lists-are-strict-orders};
+ghost use Rattle.rankings.specs.Laws.{Always-a-strict-order, Larger-scores-precede, Smaller-ranks-precede};
+ghost use Rattle.rankings.specs.contracts.rank_list.RankListRanking.the-impl as by-rank;
+ghost use Rattle.rankings.specs.contracts.scores.ScoresRanking.the-impl as by-score;
 
-// The smaller rank precedes, in a strict order of all the applications.
+// By a rank list an application precedes another exactly when its rank is the smaller.
+pub fn smaller_ranks_precede()
+    ensures { λ _. ⌜ Smaller-ranks-precede by-rank.ghosts ⌝ }
+{}
+
+// A rank list is a strict order of all the applications.
 pub fn rank_lists_are_strict_orders()
-    ensures { λ _. ⌜ Rank-lists-are-strict-orders ⌝ }
+    ensures { λ _. ⌜ Always-a-strict-order by-rank.ghosts ⌝ }
+{}
+
+// By scores an application precedes another exactly when its score is the larger, or the scores are
+// equal and its number is the smaller.
+pub fn larger_scores_precede()
+    ensures { λ _. ⌜ Larger-scores-precede by-score.ghosts ⌝ }
+{}
+
+// Scores are a strict order of all the applications.
+pub fn scores_are_strict_orders()
+    ensures { λ _. ⌜ Always-a-strict-order by-score.ghosts ⌝ }
 {}

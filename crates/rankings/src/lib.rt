@@ -1,3 +1,4 @@
 // The supplied rankings.
 pub mod laws;
 pub mod rank_list;
+pub mod scores;
