@@ -1,0 +1,5 @@
+mod Bits
+mod Fronts
+mod Moves
+mod Seated
+mod Trials

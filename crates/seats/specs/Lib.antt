@@ -1,0 +1,4 @@
+pub mod Bids
+pub mod Laws
+pub mod Places
+pub mod Seatings
