@@ -6,7 +6,8 @@ use mathlib.Core.Bool.{Bool, true, false, _&&_, _||_}
 use Prim.Native.Nat.{ℕ, zero, suc, _≤_, _<_}
 use native.Mathlib.Omega.{arith}
 use lib.Dec.{eqb, ltb}
-use Rattle.std.proofs.shelf.Tests.{and-parts, and-from, and-left, or-cases, or-left, or-right, eqb-true, eq-eqb, ltb-true, lt-ltb, le-ltb, both-ways, cases-lt, cases-bool}
+use Rattle.std.proofs.shelf.Tests.{and-parts, and-from, and-left, or-cases, or-left, or-right, eqb-true}
+use Rattle.std.proofs.shelf.Tests.{eq-eqb, ltb-true, lt-ltb, le-ltb, both-ways, cases-lt, cases-bool}
 use Rattle.matroid.specs.Laminar.{Laminar}
 use Rattle.matroid.specs.Trees.{climbs, inside, Rooted}
 

@@ -20,7 +20,8 @@ use Rattle.quotas.specs.declared.quota_tree.quotas.Quotas.{Quotas}
 use Rattle.parts.specs.Limits.{applications, groups}
 use Rattle.parts.specs.Outcomes.{Outcome, accepted, Follows}
 use Rattle.parts.proofs.Outcomes.{Keeps, accepted-sound}
-use Rattle.quotas.specs.Quotas.{numbered, first-quota, first-quotas, cap-written, group-of, home-written, parent-of, parent-written, quotas-written, root, with-home, with-parent}
+use Rattle.quotas.specs.Quotas.{numbered, first-quota, first-quotas, cap-written, group-of, home-written}
+use Rattle.quotas.specs.Quotas.{parent-of, parent-written, quotas-written, root, with-home, with-parent}
 use Rattle.std.specs.declared.result.Result.the-variants.{Ok}
 
 same-group : (g h : Group) → g .number ≡ h .number → g ≡ h

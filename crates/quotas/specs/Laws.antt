@@ -2,7 +2,6 @@
 -- tree's implementation gives to its settings. Assumes nothing.
 use Prim.Native.Nat.{ℕ, _<_, _≤_}
 use Rattle.std.specs.Orderings.{Decides}
-use Rattle.matroid.specs.Matroids.{Matroid}
 use Rattle.matroid.specs.Sets.{Set, card, _∩_}
 use Rattle.parts.specs.Limits.{applications, groups}
 use Rattle.parts.specs.declared.rule.Rule as rule
@@ -14,7 +13,3 @@ use Rattle.quotas.specs.declared.quota_tree.quotas.Quotas.{Quotas}
 abbrev pub Quotas-are-caps : rule.Ghosts QuotaTree Quotas → Type 0
 Quotas-are-caps means = (tree : QuotaTree) (S : Set) → Decides (means .independent (means .settings tree) S)
     ((g : ℕ) → g < groups → card applications (S ∩ belonging (tree .quotas) g) ≤ cap-of (tree .quotas) g)
-
--- The independent sets of a quota tree are those of a matroid.
-abbrev pub Quota-trees-are-matroids : rule.Ghosts QuotaTree Quotas → Type 0
-Quota-trees-are-matroids means = (tree : QuotaTree) → Matroid applications (means .independent (means .settings tree))

@@ -7,17 +7,11 @@ use Prim.Native.Nat.{ℕ, _<_}
 use lib.IntN.{ℤ}
 use lib.Signed.{_<ℤ_}
 use Rattle.std.specs.Orderings.{Decides}
-use Rattle.matroid.specs.Matroids.{StrictOrder}
-use Rattle.parts.specs.Limits.{applications}
 use Rattle.parts.specs.declared.ranking.Ranking as ranking
 use Rattle.rankings.specs.Ranks.{rank-of}
 use Rattle.rankings.specs.Scores.{score-of}
 use Rattle.rankings.specs.declared.rank_list.RankList.{RankList}
 use Rattle.rankings.specs.declared.scores.Scores.{Scores}
-
--- The ranking is a strict order of all the applications.
-abbrev pub Always-a-strict-order : {K S : Type 0} → ranking.Ghosts K S → Type 0
-Always-a-strict-order {K} means = (k : K) → StrictOrder applications (means .before (means .settings k))
 
 -- An application precedes another exactly when its rank is the smaller.
 abbrev pub Smaller-ranks-precede : ranking.Ghosts RankList (List ℕ) → Type 0

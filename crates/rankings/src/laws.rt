@@ -1,6 +1,7 @@
 // What is proved of the supplied rankings, whatever was written to them. Each function stands for a
 // theorem: it does nothing, and its contract is what is proved.
-ghost use Rattle.rankings.specs.Laws.{Always-a-strict-order, Larger-scores-precede, Smaller-ranks-precede};
+ghost use Rattle.parts.specs.Laws.{Always-a-strict-order};
+ghost use Rattle.rankings.specs.Laws.{Larger-scores-precede, Smaller-ranks-precede};
 ghost use Rattle.rankings.specs.contracts.rank_list.RankListRanking.the-impl as by-rank;
 ghost use Rattle.rankings.specs.contracts.scores.ScoresRanking.the-impl as by-score;
 

@@ -18,7 +18,8 @@ use Rattle.matroid.proofs.Every.{some-at, some-from}
 use Rattle.parts.specs.Limits.{applications, places}
 use Rattle.parts.specs.declared.numbers.Application.{Application}
 use Rattle.seats.specs.Places.{allowed}
-use Rattle.seats.specs.Seatings.{is-holder, holds-place, seated, Proper, Vacant}
+use Rattle.seats.specs.Seatings.{is-holder, holds-place, seated, Proper}
+use Rattle.seats.specs.Vacancies.{Vacant}
 use Rattle.seats.specs.declared.places.Places.{Places}
 
 -- sets with the same members are equal

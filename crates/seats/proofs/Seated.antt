@@ -19,7 +19,8 @@ use Rattle.parts.specs.Limits.{applications, places}
 use Rattle.parts.specs.declared.numbers.Application.{Application}
 use Rattle.seats.specs.Bids.{seatable, Unseatable}
 use Rattle.seats.specs.Places.{allowed}
-use Rattle.seats.specs.Seatings.{holds-place, seated, LetIn, NoRoom, Seating}
+use Rattle.seats.specs.Seatings.{holds-place, seated, Seating}
+use Rattle.seats.specs.Vacancies.{LetIn}
 use Rattle.seats.specs.declared.places.Places.{Places}
 use Rattle.seats.specs.declared.seating.Seats.{Seats}
 use Rattle.seats.proofs.Fronts.{front, front-adds, front-lacks, front-skips}
@@ -76,6 +77,6 @@ module _ (masks : List Places) (S : Set) where
     next-seated member after let-in = record { proper = let-in .proper; all = let-in .all ∙ with-next member }
 
     -- where there is no room for those seated and n, there is none for all the members
-    pub next-crowded : n ∈ S → NoRoom masks holders asked → Unseatable masks S
+    pub next-crowded : n ∈ S → Unseatable masks (add (seated holders) asked) → Unseatable masks S
     next-crowded member none place assigned = none place (assigned-part places (allowed masks) applications applications _ S place
         (λ x h here. (h, and-parts (S x) _ (sym (ap (λ U. U x) (with-next member)) ∙ here) .0)) assigned)

@@ -21,8 +21,9 @@ use Rattle.matroid.proofs.Pigeonhole.{without-here, without-other, without-part
 use Rattle.parts.specs.Limits.{applications, places}
 use Rattle.parts.specs.declared.numbers.Application.{Application}
 use Rattle.seats.specs.Places.{bit, allowed, FirstCommon}
-use Rattle.seats.specs.Seatings.{is-holder, holds-place, seated, Proper, Exhausted, Tried, Blocked, LetIn, NoRoom}
-use Rattle.seats.specs.Seatings.{Searched, Unseated, GaveWay}
+use Rattle.seats.specs.Bids.{Unseatable}
+use Rattle.seats.specs.Seatings.{is-holder, holds-place, seated, Proper}
+use Rattle.seats.specs.Vacancies.{Blocked, Exhausted, GaveWay, LetIn, Searched, Tried, Unseated}
 use Rattle.seats.specs.declared.places.Places.{Places}
 use Rattle.seats.proofs.Bits.{bit-all}
 use Rattle.seats.proofs.Moves.{taken-free, taken-leaves, taken-moved, taken-other, taken-proper, holds-holder}
@@ -168,7 +169,8 @@ module _ {masks : List Places} {start holders : List (Option Application)} {untr
 -- a search that tried every place at first finds no room only where there is none: the places that it
 -- tried are full, and their holders and the asked application are allowed none but these
 no-room : (masks : List Places) (holders : List (Option Application)) (last asked : ℕ) → Proper masks holders
-    → asked ∉ seated holders → asked < applications → Blocked masks holders (2 ^ 32 - 1) last asked → NoRoom masks holders asked
+    → asked ∉ seated holders → asked < applications → Blocked masks holders (2 ^ 32 - 1) last asked
+    → Unseatable masks (add (seated holders) asked)
 no-room masks holders last asked proper new below (tried, spent) =
     crowded applications places (allowed masks) (add (seated holders) asked) full holder asked below (add-here (seated holders) asked)
     held apart only
@@ -209,7 +211,7 @@ no-room masks holders last asked proper new below (tried, spent) =
 -- what the whole search answers, when at first every place is untried
 pub searched : (masks : List Places) (before after : List (Option Application)) (first last asked : ℕ) (r : Bool) → first ≡ 2 ^ 32 - 1
     → Proper masks before × (asked ∉ seated before) → asked < applications → Searched masks before after first last asked r
-    → When r (LetIn masks before after asked) ((after ≡ before) × NoRoom masks before asked)
+    → When r (LetIn masks before after asked) ((after ≡ before) × Unseatable masks (add (seated before) asked))
 searched masks before after first last asked true all pre below let-in = let-in
 searched masks before after first last asked false all pre below (same, blocked) =
     (same, no-room masks before last asked (pre .0) (pre .1) below (subst (λ untried. Blocked masks before untried last asked) all blocked))

@@ -4,7 +4,6 @@ use mathlib.Core.List.{List}
 use Prim.Native.Nat.{ℕ}
 use Rattle.std.specs.Orderings.{Decides}
 use Rattle.matroid.specs.Assignments.{Assignment}
-use Rattle.matroid.specs.Matroids.{Matroid}
 use Rattle.matroid.specs.Sets.{Set}
 use Rattle.parts.specs.Limits.{applications, places}
 use Rattle.parts.specs.declared.rule.Rule as rule
@@ -16,7 +15,3 @@ use Rattle.seats.specs.declared.seat_bids.SeatBids.{SeatBids}
 abbrev pub Seat-bids-are-assignments : rule.Ghosts SeatBids (List Places) → Type 0
 Seat-bids-are-assignments means = (bids : SeatBids) (S : Set) → Decides (means .independent (means .settings bids) S)
     ((place : ℕ → ℕ) × Assignment applications places (allowed (bids .masks)) S place)
-
--- The independent sets of seat bids are those of a matroid.
-abbrev pub Seat-bids-are-matroids : rule.Ghosts SeatBids (List Places) → Type 0
-Seat-bids-are-matroids means = (bids : SeatBids) → Matroid applications (means .independent (means .settings bids))

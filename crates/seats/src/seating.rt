@@ -3,8 +3,10 @@ ghost use mathlib.Core.Path.{_≡_};
 ghost use lib.ListN.{getD};
 ghost use Rattle.std.specs.declared.option.Option.the-variants.{None};
 ghost use Rattle.std.specs.Orderings.{When};
-ghost use Rattle.matroid.specs.Sets.{_∉_};
-ghost use Rattle.seats.specs.Seatings.{seated, GaveWay, LetIn, NoRoom, Proper, Searched, Unseated, Vacant};
+ghost use Rattle.matroid.specs.Sets.{_∉_, add};
+ghost use Rattle.seats.specs.Bids.{Unseatable};
+ghost use Rattle.seats.specs.Seatings.{seated, Proper};
+ghost use Rattle.seats.specs.Vacancies.{GaveWay, LetIn, Searched, Unseated, Vacant};
 use super::places::Places;
 use parts::numbers::APPLICATIONS;
 use parts::numbers::Application;
@@ -84,7 +86,7 @@ impl Seats {
         requires { ⌜ Proper (now masks) (now self .holders) ⌝ ∗ ⌜ asked .0 ∉ seated (now self .holders) ⌝ }
         ensures { λ r. ⌜ When r (LetIn (now (masks .entry)) (now (self .entry) .holders) (now (self .exit) .holders) (asked .0))
             ((now (self .exit) .holders ≡ now (self .entry) .holders)
-            × NoRoom (now (masks .entry)) (now (self .entry) .holders) (asked .0)) ⌝ }
+            × Unseatable (now (masks .entry)) (add (seated (now (self .entry) .holders)) (asked .0))) ⌝ }
     {
         let mut untried = Places::all();
         self.seat(masks, &mut untried, asked)

@@ -3,7 +3,7 @@ use Prim.Native.Nat.{_+_, _*_}
 use Rattle.matroid.specs.Sets.{card}
 use Rattle.parts.specs.Limits.{places}
 use Rattle.seats.specs.Places.{bit}
-use Rattle.seats.specs.Seatings.{Tried}
+use Rattle.seats.specs.Vacancies.{Tried}
 use Rattle.seats.proofs.seating.Seats.+give_way+seat.Given as given
 
 -- fewer and fewer places are untried
