@@ -1,5 +1,6 @@
 // Cases for each supplied part, worked out from the rule book, and two parts of another author.
 #[cfg(test)]
+#![tactic(auto)]
 mod by_number;
 #[cfg(test)]
 mod clearings;

@@ -1,4 +1,6 @@
 // Choice, deferred acceptance, and the check of a list, for any two sides.
+#![tactic(auto)]
+
 pub mod choice;
 pub mod deferred;
 mod marks;

@@ -1,5 +1,7 @@
 // The theory of choice, kernels and deferred acceptance over matroids. Each function stands for a theorem:
 // it does nothing, and its contract is what is proved.
+#![tactic(auto)]
+
 ghost use Rattle.matroid.specs.Theorems.{ChoiceExists, ChoiceFromAPart, ChoiceIsIndependent, ChoiceIsUnique, ChoiceLeavesTheDominated, ChoiceSpans};
 ghost use Rattle.matroid.specs.Theorems.{EndsAlways, EndsOnce, KernelsAreAlike, ListIsAKernel, ListIsBest, TurnsBounded};
 ghost use Rattle.matroid.specs.Theorems.{AssignableByAssignment, InsideByParents, LaminarIsMatroid, TransversalIsMatroid, TruncationIsMatroid};

@@ -1,5 +1,7 @@
 // Clears two small rounds and prints them in plain words: what each side can accept and would
 // rather have, the list, and the number of turns.
+#![tactic(auto)]
+
 mod report;
 mod rounds;
 

@@ -1,4 +1,6 @@
 // The supplied rankings.
+#![tactic(auto)]
+
 pub mod laws;
 pub mod rank_list;
 pub mod scores;
