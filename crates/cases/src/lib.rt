@@ -1,6 +1,7 @@
 // Cases for each supplied part, worked out from the rule book, and two parts of another author.
-#[cfg(test)]
 #![tactic(auto)]
+
+#[cfg(test)]
 mod by_number;
 #[cfg(test)]
 mod clearings;

@@ -17,5 +17,5 @@ abbrev pub AlwaysAStrictOrder : {K S : Type 0} → ranking.Ghosts K S → Type 0
 AlwaysAStrictOrder {K} means = (k : K) → StrictOrder applications (means.before (means.settings k))
 
 -- U is independent below the truncation and has no more members than its cap
-abbrev pub WithinTheCap : {R S : Type 0} → rule.Ghosts R S → Truncation R S → Set → Type 0
+abbrev pub WithinTheCap : {R S : Type 0} → (means : rule.Ghosts R S) → Truncation R S means → Set → Type 0
 WithinTheCap means t U = (means.independent (means.settings t.below) U ≡ true) × (card applications U ≤ t.«cap»)

@@ -37,37 +37,37 @@ loop-first-init g c = running_first _ _ c.args.live.now
 pub after-requires : goal.after-requires
 after-requires g c = omega (arith, few_turns g c.args.one.now c.args.two.now _ _ _ c.told-live c.loop-first.invariant)
 
-pub returns-then-is-last : goal.returns-then-is-last
-returns-then-is-last g c =
+pub returns-then-is_last : goal.returns-then-is_last
+returns-then-is_last g c =
     let one = lawful_one g c.args.one.now in
     let two = lawful_two g c.args.two.now in
     let ended = ends_with _ _ _ _ _ c.after.result.list c.after.ensures.1
     (running_ends _ _ c.args.live.now c.loop-first.struck c.turn-made.result.struck c.loop-first.before _
-    c.loop-first.invariant (c.turn-made.ensures _ _ one.order two.order c.in-order.ensures c.in-order-2.ensures)
-    c.after.result.turns c.after.ensures.0 (c.is-last.ensures.0 c.if-is-last.true)) in
+    c.loop-first.invariant (c.turn-made.ensures _ _ one.order two.order c.in_order.ensures c.in_order-2.ensures)
+    c.after.result.turns c.after.ensures.0 (c.is_last.ensures.0 c.if-is_last.true)) in
     record {
       ends = ended;
       bounded = turns_bounded applications _ _ one two _ (marked_below c.args.live.now c.told-live) _ _ ended;
       clearing = clearing_from applications _ _ one two _ (marked_below c.args.live.now c.told-live) _ _ ended;
     }
 
-pub overflow-add-before : goal.overflow-add-before
-overflow-add-before g c = omega (arith, few_turns g c.args.one.now c.args.two.now _ _ _ c.told-live c.loop-first.invariant)
+pub overflow_add-before : goal.overflow_add-before
+overflow_add-before g c = omega (arith, few_turns g c.args.one.now c.args.two.now _ _ _ c.told-live c.loop-first.invariant)
 
 pub loop-first-smaller : goal.loop-first-smaller
 loop-first-smaller g c =
     let one = lawful_one g c.args.one.now in
     let two = lawful_two g c.args.two.now in
     running_less _ _ c.args.live.now c.loop-first.struck c.turn-made.result.struck c.loop-first.before _
-    c.loop-first.invariant (c.turn-made.ensures _ _ one.order two.order c.in-order.ensures c.in-order-2.ensures)
+    c.loop-first.invariant (c.turn-made.ensures _ _ one.order two.order c.in_order.ensures c.in_order-2.ensures)
     (omega arith)
-    (λ same. both_ways c.is-last.result c.if-is-last.false (c.is-last.ensures.1 same)) one two c.told-live
+    (λ same. both_ways c.is_last.result c.if-is_last.false (c.is_last.ensures.1 same)) one two c.told-live
 
 pub loop-first-preserved : goal.loop-first-preserved
 loop-first-preserved g c =
     let one = lawful_one g c.args.one.now in
     let two = lawful_two g c.args.two.now in
     running_next _ _ c.args.live.now c.loop-first.struck c.turn-made.result.struck c.loop-first.before _
-    c.loop-first.invariant (c.turn-made.ensures _ _ one.order two.order c.in-order.ensures c.in-order-2.ensures)
+    c.loop-first.invariant (c.turn-made.ensures _ _ one.order two.order c.in_order.ensures c.in_order-2.ensures)
     (omega arith)
-    (λ same. both_ways c.is-last.result c.if-is-last.false (c.is-last.ensures.1 same))
+    (λ same. both_ways c.is_last.result c.if-is_last.false (c.is_last.ensures.1 same))

@@ -12,5 +12,5 @@ loop-c-preserved c =
     ap (λ w. c.loop-c.count + w) c.weight-count.ensures
     ∙ card_next c.loop-c.c marks (marks c.loop-c.c) c.loop-c.count c.loop-c.invariant refl
 
-pub overflow-add-count : goal.overflow-add-count
-overflow-add-count c = omega (arith, loop-c-preserved c, card_bound (c.loop-c.c + 1) (members c.args.marked.now))
+pub overflow_add-count : goal.overflow_add-count
+overflow_add-count c = omega (arith, loop-c-preserved c, card_bound (c.loop-c.c + 1) (members c.args.marked.now))

@@ -1,7 +1,7 @@
 use Rattle.clearing.proofs.refusal.ListRefusalDisplay.fmt.Goals as goal
 
 pub returns-in-Length-clause-writes : goal.returns-in-Length-clause-writes
-returns-in-Length-clause-writes g c = rw c.in-Length.is c.write-str.ensures.writes
+returns-in-Length-clause-writes g c = rw c.in-Length.is c.write_str.ensures.writes
 
 pub returns-in-NotAMark-clause-writes : goal.returns-in-NotAMark-clause-writes
 returns-in-NotAMark-clause-writes g c = rw (c.in-NotAMark.is, ← c.number-place.ensures) c.write.ensures.shows

@@ -13,8 +13,8 @@ use Rattle.quotas.proofs.quota_tree.QuotaTree.count_members.Goals.{then-mark, th
 pub loop-c-init : goal.loop-c-init
 loop-c-init c g below = get_or-replicate groups g 0 0 below ∙ sym (card_none _)
 
-pub count-upward-requires : goal.count-upward-requires
-count-upward-requires c g below =
+pub count_upward-requires : goal.count_upward-requires
+count_upward-requires c g below =
     omega (arith, c.loop-c.invariant g below, card_bound c.loop-c.c (add (members c.args.marked.now) c.args.asked.0 ∩ belonging c.args.self.now.quotas g))
 
 pub loop-c-preserved : goal.loop-c-preserved
@@ -31,7 +31,7 @@ loop-c-preserved c g below =
           ] in
           let read : w.index-self-c.result ≡ get_or quotas.homes at root = search (rules, get_or_read) in
           ap (λ counts. get_or counts g 0) w.counts-is
-          ∙ w.count-upward.ensures g below
+          ∙ w.count_upward.ensures g below
           ∙ ap (λ (home : Group). get_or c.loop-c.counts g 0 + cond (inside (parent_of quotas) home.number g) 1 0) (sym w.index-self-c.is ∙ read)
           ∙ card_next at (add marks asked ∩ belonging quotas g) (belonging quotas g at) (get_or c.loop-c.counts g 0) (c.loop-c.invariant g below)
           (ap (λ b. b && belonging quotas g at) member)

@@ -12,14 +12,14 @@ loop-number-preserved c =
     let inv = c.loop-number.invariant in (
       simp (length-set, inv.0),
       simp (length-set, inv.1),
-      λ k l. ap (λ n. get_or (set ranks number n) k 0) (c.first-rank.ensures ∙ c.new-application.ensures)
+      λ k l. ap (λ n. get_or (set ranks number n) k 0) (c.first_rank.ensures ∙ c.new-application.ensures)
           ∙ fill_by_more (λ j. j) ranks number 0 (omega arith) inv.2 k l,
       λ k l. ap (λ n. get_or (set holders number (record { 0 = n })) k (record { 0 = 0 })) c.new-application.ensures
           ∙ fill_by_more (λ j. record { 0 = j }) holders number (record { 0 = 0 }) (omega arith) inv.3 k l,
     )
 
-pub invariant-of-result : goal.invariant-of-result
-invariant-of-result c = (
+pub invariant_of-result : goal.invariant_of-result
+invariant_of-result c = (
   counted_paired _ _ c.loop-number.invariant.0 c.loop-number.invariant.1
       (λ k l. c.loop-number.invariant.2 k (omega arith))
       (λ k l. ap (λ a. a.0) (c.loop-number.invariant.3 k (omega arith))),

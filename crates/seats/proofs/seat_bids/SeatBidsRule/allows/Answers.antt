@@ -7,5 +7,5 @@ use Rattle.seats.proofs.seat_bids.SeatBidsRule.allows.Goals as goal
 pub returns : goal.returns
 returns c =
     let masks = c.args.self.now.masks in
-    c.is-some.ensures ∙ found_or_not masks (members c.with.result) c.assignment.result c.assignment.ensures
+    c.is_some.ensures ∙ found_or_not masks (members c.with.result) c.assignment.result c.assignment.ensures
     ∙ ap (seatable masks) c.with.ensures

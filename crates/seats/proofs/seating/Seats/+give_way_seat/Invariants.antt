@@ -9,8 +9,8 @@ use Rattle.seats.proofs.seating.Seats.+give_way_seat.Given as goal
 abbrev pub decreases-seat : goal.decreases-seat
 decreases-seat l = 2 * card places (bit l.untried.now.0)
 
-abbrev pub decreases-give-way : goal.decreases-give-way
-decreases-give-way l = 2 * card places (bit l.untried.now.0) + 1
+abbrev pub decreases-give_way : goal.decreases-give_way
+decreases-give_way l = 2 * card places (bit l.untried.now.0) + 1
 
 -- the holders stand as they stood, and every place tried so far was in vain
 abbrev pub invariant-seat-loop-place : goal.invariant-seat-loop-place

@@ -5,4 +5,4 @@ use Rattle.quotas.specs.Quotas.{cap_of}
 use Rattle.quotas.proofs.quota_tree.rules.QuotaTreeRule.allows.Goals as goal
 
 pub returns : goal.returns
-returns c = c.keeps-caps.ensures ∙ every_same groups _ _ (λ g below. ap (λ n. leb n (cap_of c.args.self.now.quotas g)) (c.count-members-counts.ensures g below))
+returns c = c.keeps_caps.ensures ∙ every_same groups _ _ (λ g below. ap (λ n. leb n (cap_of c.args.self.now.quotas g)) (c.count_members-counts.ensures g below))
