@@ -7,4 +7,4 @@ use Rattle.quotas.proofs.quota_tree.QuotaTree.write_cap.Goals as goal
 pub invariant_of-self : goal.invariant_of-self
 invariant_of-self c =
     let read : c.index-self-from.result ≡ get_or c.args.self.now.quotas.groups c.from.result first_quota = search (rules, get_or_read) in
-    (rooted_set _ _ _ c.args.self.now.rooted (rooted_at _ _ _ c.args.self.now.rooted (sym c.index-self-from.is ∙ read)), tt)
+    record { rooted = rooted_set _ _ _ c.args.self.now.rooted (rooted_at _ _ _ c.args.self.now.rooted (sym c.index-self-from.is ∙ read)) }

@@ -6,7 +6,8 @@ use Rattle.quotas.specs.Groups.{rooted_set, parent_put}
 use Rattle.quotas.proofs.quota_tree.QuotaTree.write_parent.Goals as goal
 
 pub invariant_of-self : goal.invariant_of-self
-invariant_of-self c = (rooted_set _ _ _ c.args.self.now.rooted (λ above. ltb-true _ _ (sym c.if-not-is_below.ensures)), tt)
+invariant_of-self c =
+    record { rooted = rooted_set _ _ _ c.args.self.now.rooted (λ above. ltb-true _ _ (sym c.if-not-is_below.ensures)) }
 
 pub returns : goal.returns
 returns c =

@@ -19,9 +19,8 @@ loop-number-preserved c =
     )
 
 pub invariant_of-result : goal.invariant_of-result
-invariant_of-result c = (
-  counted_paired _ _ c.loop-number.invariant.0 c.loop-number.invariant.1
+invariant_of-result c = record {
+  paired = counted_paired _ _ c.loop-number.invariant.0 c.loop-number.invariant.1
       (λ k l. c.loop-number.invariant.2 k (omega arith))
-      (λ k l. ap (λ a. a.0) (c.loop-number.invariant.3 k (omega arith))),
-  tt,
-)
+      (λ k l. ap (λ a. a.0) (c.loop-number.invariant.3 k (omega arith)));
+}

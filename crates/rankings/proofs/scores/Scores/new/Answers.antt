@@ -7,4 +7,4 @@ use Rattle.rankings.proofs.scores.Scores.new.Goals as goal
 pub invariant_of-result : goal.invariant_of-result
 invariant_of-result c =
     let score : ℤ = to_z w16 (of_z w16 c.start_score.result) in
-    (all_within applications score (omega (arith, ints)) (omega (arith, ints)), tt)
+    record { within = all_within applications score (omega (arith, ints)) (omega (arith, ints)) }

@@ -6,4 +6,4 @@ use Rattle.rankings.proofs.scores.ScoresRanking.write.Goals as goal
 pub invariant_of-self : goal.invariant_of-self
 invariant_of-self c =
     let (within, score) = c.in-Some.ensures in
-    (within_set _ _ _ (omega (arith, ints)) (omega (arith, ints)) c.args.self.now.within, tt)
+    record { within = within_set _ _ _ (omega (arith, ints)) (omega (arith, ints)) c.args.self.now.within }
