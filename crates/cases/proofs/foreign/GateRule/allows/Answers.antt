@@ -15,4 +15,4 @@ added_passes false S x low =
     sym (ne_eqb (card applications (add S x)) 0 (λ e. omega arith))
 
 pub returns : goal.returns
-returns c = c.is_open.ensures ∙ added_passes c.args.self.now.«open» (members c.args.-marked.now) c.args.-asked.0 (omega arith)
+returns c = c.is_open.ensures ∙ added_passes c.args.self.now.«open» (members c.args._marked.now) c.args._asked.0 (omega arith)
