@@ -3,7 +3,6 @@ use super::foreign::ByNumber;
 use super::steps::RankingStep::{Accepts, Precedes, Refuses};
 use super::steps::{RankingStep, check_ranking};
 use parts::refusal::Cause::{UnusedKey, ValueAboveLimit};
-use std::test::Fail;
 
 const ORDER: [RankingStep; 21] = [
     // At first the order is rising.
@@ -32,9 +31,8 @@ const ORDER: [RankingStep; 21] = [
 ];
 
 #[test]
-fn rises_and_falls(rt: HostRuntime) -> Result<(), Fail> {
+fn rises_and_falls(rt: HostRuntime) {
     let mut order = ByNumber::new();
-    check_ranking(&rt, &mut order, &ORDER)?;
+    check_ranking(&rt, &mut order, &ORDER);
     assert!(rt; !order.is_falling());
-    Ok(())
 }

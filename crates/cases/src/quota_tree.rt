@@ -127,23 +127,23 @@ const UNUSED: [RuleStep; 8] = [
 ];
 
 #[test]
-fn caps(rt: HostRuntime) -> Result<(), Fail> {
-    check_rule(&rt, &mut QuotaTree::new(), &CAPS)
+fn caps(rt: HostRuntime) {
+    check_rule(&rt, &mut QuotaTree::new(), &CAPS);
 }
 
 #[test]
-fn parents(rt: HostRuntime) -> Result<(), Fail> {
-    check_rule(&rt, &mut QuotaTree::new(), &PARENTS)
+fn parents(rt: HostRuntime) {
+    check_rule(&rt, &mut QuotaTree::new(), &PARENTS);
 }
 
 #[test]
-fn homes(rt: HostRuntime) -> Result<(), Fail> {
-    check_rule(&rt, &mut QuotaTree::new(), &HOMES)
+fn homes(rt: HostRuntime) {
+    check_rule(&rt, &mut QuotaTree::new(), &HOMES);
 }
 
 #[test]
-fn keys_without_use(rt: HostRuntime) -> Result<(), Fail> {
-    check_rule(&rt, &mut QuotaTree::new(), &UNUSED)
+fn keys_without_use(rt: HostRuntime) {
+    check_rule(&rt, &mut QuotaTree::new(), &UNUSED);
 }
 
 // A cap of 256 has room for all the applications, and one of 255 has not.

@@ -4,7 +4,6 @@ use super::steps::{RankingStep, check_ranking};
 use parts::numbers::Application;
 use parts::refusal::Cause::{UnusedKey, ValueAboveLimit};
 use rankings::scores::Scores;
-use std::test::Fail;
 
 // Applications 10 to 14 with the scores −1,000, −1, 0, 1 and 1,000.
 const FIVE: [RankingStep; 5] = [
@@ -91,28 +90,28 @@ const LIMITS: [RankingStep; 17] = [
 ];
 
 #[test]
-fn five_scores(rt: HostRuntime) -> Result<(), Fail> {
+fn five_scores(rt: HostRuntime) {
     let mut scores = Scores::new();
-    check_ranking(&rt, &mut scores, &FIVE)?;
-    check_ranking(&rt, &mut scores, &COMPARED)
+    check_ranking(&rt, &mut scores, &FIVE);
+    check_ranking(&rt, &mut scores, &COMPARED);
 }
 
 #[test]
-fn equal_scores(rt: HostRuntime) -> Result<(), Fail> {
+fn equal_scores(rt: HostRuntime) {
     let mut scores = Scores::new();
-    check_ranking(&rt, &mut scores, &FIVE)?;
-    check_ranking(&rt, &mut scores, &EQUAL)
+    check_ranking(&rt, &mut scores, &FIVE);
+    check_ranking(&rt, &mut scores, &EQUAL);
 }
 
 #[test]
-fn limits(rt: HostRuntime) -> Result<(), Fail> {
-    check_ranking(&rt, &mut Scores::new(), &LIMITS)
+fn limits(rt: HostRuntime) {
+    check_ranking(&rt, &mut Scores::new(), &LIMITS);
 }
 
 #[test]
-fn scores_are_read(rt: HostRuntime) -> Result<(), Fail> {
+fn scores_are_read(rt: HostRuntime) {
     let mut scores = Scores::new();
-    check_ranking(&rt, &mut scores, &FIVE)?;
+    check_ranking(&rt, &mut scores, &FIVE);
     let read = [
         scores.score(Application::new(10)),
         scores.score(Application::new(11)),
@@ -122,5 +121,4 @@ fn scores_are_read(rt: HostRuntime) -> Result<(), Fail> {
         scores.score(Application::new(15)),
     ];
     assert_eq!(rt; read, [-1000, -1, 0, 1, 1000, 0]);
-    Ok(())
 }

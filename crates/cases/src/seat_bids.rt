@@ -68,20 +68,20 @@ const KEYS: [RuleStep; 14] = [
 ];
 
 #[test]
-fn bids(rt: HostRuntime) -> Result<(), Fail> {
+fn bids(rt: HostRuntime) {
     let mut bids = SeatBids::new();
-    check_rule(&rt, &mut bids, &TWO_PLACES)?;
-    check_rule(&rt, &mut bids, &BIDS)
+    check_rule(&rt, &mut bids, &TWO_PLACES);
+    check_rule(&rt, &mut bids, &BIDS);
 }
 
 #[test]
-fn the_last_place(rt: HostRuntime) -> Result<(), Fail> {
-    check_rule(&rt, &mut SeatBids::new(), &PLACE_31)
+fn the_last_place(rt: HostRuntime) {
+    check_rule(&rt, &mut SeatBids::new(), &PLACE_31);
 }
 
 #[test]
-fn keys(rt: HostRuntime) -> Result<(), Fail> {
-    check_rule(&rt, &mut SeatBids::new(), &KEYS)
+fn keys(rt: HostRuntime) {
+    check_rule(&rt, &mut SeatBids::new(), &KEYS);
 }
 
 // Every application is allowed every place: the first 32 get one each, and the next finds none.
@@ -113,7 +113,7 @@ fn place(number: u32) -> Result<Place, Fail> {
 #[test]
 fn the_only_assignment(rt: HostRuntime) -> Result<(), Fail> {
     let mut bids = SeatBids::new();
-    check_rule(&rt, &mut bids, &TWO_PLACES)?;
+    check_rule(&rt, &mut bids, &TWO_PLACES);
     assert!(rt; bids.assignment(&marks(&[0, 1, 2])).is_none());
     let seats = bids.assignment(&marks(&[0, 1])).ok_or("no assignment")?;
     let held = [seats.holder(place(0)?), seats.holder(place(1)?)];

@@ -5,7 +5,6 @@ use parts::ranking::Ranking;
 use parts::refusal::{Cause, WriteRefusal};
 use parts::rule::Rule;
 use std::process::Abort;
-use std::test::Fail;
 
 // A step of a rule.
 pub(crate) enum RuleStep {
@@ -40,26 +39,31 @@ fn refused(cause: Cause, depth: u16, key: u16) -> Result<(), WriteRefusal> {
     Err(WriteRefusal { cause, depth, key })
 }
 
-fn take_rule_step<R: Rule>(rt: &impl Abort, rule: &mut R, step: &RuleStep) -> Result<(), Fail> {
+// Takes one step. A failure names the part and the step.
+fn take_rule_step<R: Rule>(
+    rt: &impl Abort,
+    rule: &mut R,
+    step: &RuleStep,
+    (part, number): (&str, usize),
+) {
     match step {
         RuleStep::Accepts(key, value) => {
-            assert_eq!(rt; rule.write(*key, *value), Ok(()));
-            Ok(())
-        },
+            assert_eq!(rt; rule.write(*key, *value), Ok(()), "{part}, step {number}");
+        }
         RuleStep::Refuses(key, value, cause, depth, received) => {
             assert_eq!(rt;
                 rule.write(*key, *value),
-                refused(*cause, *depth, *received)
+                refused(*cause, *depth, *received),
+                "{part}, step {number}"
             );
-            Ok(())
-        },
+        }
         RuleStep::Allows(marked, asked, allowed) => {
             assert_eq!(rt;
                 rule.allows(&marks(marked), Application::new(*asked)),
-                *allowed
+                *allowed,
+                "{part}, step {number}"
             );
-            Ok(())
-        },
+        }
     }
 }
 
@@ -67,49 +71,44 @@ fn take_ranking_step<K: Ranking>(
     rt: &impl Abort,
     ranking: &mut K,
     step: &RankingStep,
-) -> Result<(), Fail> {
+    number: usize,
+) {
     match step {
         RankingStep::Accepts(key, value) => {
-            assert_eq!(rt; ranking.write(*key, *value), Ok(()));
-            Ok(())
-        },
+            assert_eq!(rt; ranking.write(*key, *value), Ok(()), "step {number}");
+        }
         RankingStep::Refuses(key, value, cause, depth, received) => {
             assert_eq!(rt;
                 ranking.write(*key, *value),
-                refused(*cause, *depth, *received)
+                refused(*cause, *depth, *received),
+                "step {number}"
             );
-            Ok(())
-        },
+        }
         RankingStep::Precedes(first, second, before) => {
             assert_eq!(rt;
                 ranking.precedes(Application::new(*first), Application::new(*second)),
-                *before
+                *before,
+                "step {number}"
             );
-            Ok(())
-        },
+        }
     }
 }
 
-// Takes the steps one after the other. A failure says which it was, counted from 0.
-pub(crate) fn check_rule<R: Rule>(
-    rt: &impl Abort,
-    rule: &mut R,
-    steps: &[RuleStep],
-) -> Result<(), Fail> {
+// Takes the steps one after the other. A failure says which it was, counted from 0, and of which part.
+pub(crate) fn check_part<R: Rule>(rt: &impl Abort, part: &str, rule: &mut R, steps: &[RuleStep]) {
     for (number, step) in steps.iter().enumerate() {
-        take_rule_step(rt, rule, step).note(format_args!("step {number}"))?;
+        take_rule_step(rt, rule, step, (part, number));
     }
-    Ok(())
+}
+
+// The same for the only rule of a case.
+pub(crate) fn check_rule<R: Rule>(rt: &impl Abort, rule: &mut R, steps: &[RuleStep]) {
+    check_part(rt, "the rule", rule, steps);
 }
 
 // The same for a ranking.
-pub(crate) fn check_ranking<K: Ranking>(
-    rt: &impl Abort,
-    ranking: &mut K,
-    steps: &[RankingStep],
-) -> Result<(), Fail> {
+pub(crate) fn check_ranking<K: Ranking>(rt: &impl Abort, ranking: &mut K, steps: &[RankingStep]) {
     for (number, step) in steps.iter().enumerate() {
-        take_ranking_step(rt, ranking, step).note(format_args!("step {number}"))?;
+        take_ranking_step(rt, ranking, step, number);
     }
-    Ok(())
 }

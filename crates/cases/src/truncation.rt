@@ -1,7 +1,7 @@
 // Cases for the truncation, over a quota tree, over seat bids and over another truncation, and for the
 // depth of a refusal.
 use super::steps::RuleStep::{Accepts, Allows, Refuses};
-use super::steps::{RuleStep, check_rule, marks};
+use super::steps::{RuleStep, check_part, check_rule, marks};
 use parts::numbers::Application;
 use parts::refusal::Cause::{ParentNotSmaller, UnusedKey, ValueAboveLimit};
 use parts::refusal::WriteRefusal;
@@ -102,19 +102,19 @@ const REOPENED: [RuleStep; 3] = [
 ];
 
 #[test]
-fn cap(rt: HostRuntime) -> Result<(), Fail> {
-    check_rule(&rt, &mut Truncation::over(QuotaTree::new()), &CAP)
+fn cap(rt: HostRuntime) {
+    check_rule(&rt, &mut Truncation::over(QuotaTree::new()), &CAP);
 }
 
 #[test]
-fn over_a_quota_tree(rt: HostRuntime) -> Result<(), Fail> {
-    check_rule(&rt, &mut Truncation::over(QuotaTree::new()), &BELOW)
+fn over_a_quota_tree(rt: HostRuntime) {
+    check_rule(&rt, &mut Truncation::over(QuotaTree::new()), &BELOW);
 }
 
 #[test]
-fn over_another(rt: HostRuntime) -> Result<(), Fail> {
+fn over_another(rt: HostRuntime) {
     let inner = Truncation::over(QuotaTree::new());
-    check_rule(&rt, &mut Truncation::over(inner), &TWO_LAYERS)
+    check_rule(&rt, &mut Truncation::over(inner), &TWO_LAYERS);
 }
 
 // The example of the README.
@@ -132,12 +132,17 @@ fn over_seat_bids(rt: HostRuntime) -> Result<(), Fail> {
 }
 
 #[test]
-fn copies(rt: HostRuntime) -> Result<(), Fail> {
+fn copies(rt: HostRuntime) {
     let mut original = Truncation::over(QuotaTree::new());
     let mut copy = original.copied();
-    check_rule(&rt, &mut original, &ORIGINAL).note("the original")?;
-    check_rule(&rt, &mut copy, &COPY).note("the copy")?;
-    check_rule(&rt, &mut original, &REOPENED).note("the original, after writes to the copy")
+    check_part(&rt, "the original", &mut original, &ORIGINAL);
+    check_part(&rt, "the copy", &mut copy, &COPY);
+    check_part(
+        &rt,
+        "the original, after writes to the copy",
+        &mut original,
+        &REOPENED,
+    );
 }
 
 // A depth is 65,535 at most.
