@@ -1,14 +1,11 @@
 // Two parts of another author, a rule and a ranking. Nothing but the interfaces ties them to the
 // supplied parts.
-ghost use Rattle.std.specs.Prelude.{◌≡◌, true, false, cond, if◌then◌else◌, Ok, Err, ◌==◌, nat_le, refl};
+ghost use Rattle.std.specs.Prelude.{◌≡◌, true, false, if◌then◌else◌, Ok, Err, ◌==◌, nat_le};
+ghost use Rattle.std.proofs.Common.{rules};
 ghost use Rattle.parts.specs.Outcomes.{refusal_here};
 ghost use Rattle.parts.specs.declared.refusal.Cause.TheVariants.{UnusedKey, ValueAboveLimit};
 ghost use Rattle.cases.specs.Foreign.{let_through, number_before, switched};
-ghost use Rattle.std.proofs.Common.{arith, rules};
-ghost use Rattle.std.proofs.lemmas.Bool.{eq-eqb, eqb-true};
-ghost use Rattle.matroid.specs.Sets.{∅, card};
-ghost use Rattle.matroid.proofs.Cards.{card_empty, card_finds, card_mono};
-ghost use Rattle.parts.specs.Limits.{applications};
+ghost use Rattle.cases.specs.Gates.{gate_matroid};
 
 use parts::numbers::{APPLICATIONS, Application};
 use parts::ranking::Ranking;
@@ -17,9 +14,9 @@ use parts::rule::Rule;
 
 // The switch that a write sets: key 0 is the only one, and its value is 1 for on or 0 for off.
 fn switch_from(key: u16, value: u32) -> Result<bool, WriteRefusal>
-    ensures { result ≡ cond (key == 0)
-        (if nat_le value 1 then Ok (value == 1) else Err (refusal_here ValueAboveLimit key))
-        (Err (refusal_here UnusedKey key)) }
+    ensures { result ≡ (if key == 0
+        then (if nat_le value 1 then Ok (value == 1) else Err (refusal_here ValueAboveLimit key))
+        else Err (refusal_here UnusedKey key)) }
 {
     if key != 0 {
         return Err(WriteRefusal::here(Cause::UnusedKey, key));
@@ -68,26 +65,7 @@ impl Rule for Gate {
 
     ghost written_sound = { Prim.search rules };
 
-    ghost matroid = { elim [
-      | true ↦
-          λ _.
-          record {
-            empty = refl;
-            subset = λ S U part passes. refl;
-            exchange = λ S U passesS passesU more.
-                let (x, low, member, out) = card_finds applications S U more in
-                (x, low, member, out, refl);
-          }
-      | false ↦
-          λ _.
-          record {
-            empty = eq-eqb (card applications ∅) 0 (card_empty applications);
-            subset = λ S U part none.
-                eq-eqb (card applications S) 0
-                (omega (arith, card_mono applications S U part, eqb-true (card applications U) 0 none));
-            exchange = λ S U noneS noneU more. absurd (omega (arith, eqb-true (card applications U) 0 noneU));
-          }
-    ] };
+    ghost matroid = { λ lets _. gate_matroid lets };
 
     // A set with the asked number in it has a member.
     fn allows(&self, _marked: &[bool; APPLICATIONS], _asked: Application) -> bool {

@@ -1,7 +1,7 @@
 -- Lists that somebody else made: what each refusal says, when it fits, and what the verdict is. A list
 -- has a byte for each application, 1 where it is listed and 0 where it is not. Assumes nothing.
-use Rattle.std.specs.Prelude.{◌≡◌, ℕ, ◌<◌, ◌≤◌, Bool, true, false, ◌&&◌, List, [], ◌∷◌, ◌++◌, length, Some, None, Ok, Err, codes, decimal, Option, Result, ◌==◌, nat_le, slice_index}
-use Rattle.matroid.specs.Sets.{Set, ◌∈◌, ◌∉◌, ◌∪◌, ◌∖◌}
+use Rattle.std.specs.Prelude.{◌≡◌, ℕ, ◌<◌, ◌≤◌, false, ◌&&◌, List, [], ◌∷◌, ◌++◌, length, Some, None, Ok, Err, codes, decimal, Option, Result, ◌==◌, nat_le, slice_index}
+use Rattle.matroid.specs.Sets.{Set, ◌∈◌, ◌∪◌, ◌∖◌}
 use Rattle.matroid.specs.Matroids.{Side}
 use Rattle.matroid.specs.Kernels.{dominates, Kernel}
 use Rattle.parts.specs.Limits.{applications}

@@ -1,12 +1,11 @@
 // The truncation: a layer over any rule that accepts no more than so many applications.
-ghost use Rattle.std.specs.Prelude.{◌≡◌, ◌≤◌, leb, if◌then◌else◌, Ok, Err, nat_le};
+ghost use Rattle.std.specs.Prelude.{◌≡◌, ◌≤◌, if◌then◌else◌, Ok, Err, nat_le};
 ghost use Rattle.parts.specs.Outcomes.{refusal_here};
 ghost use Rattle.parts.specs.Truncations.{capped_independent, CappedSound, capped_written};
 ghost use Rattle.parts.specs.declared.refusal.Cause.TheVariants.{ValueAboveLimit};
 ghost use Rattle.parts.specs.TruncationsLemmas.{capped_written_sound};
 ghost use Rattle.matroid.proofs.Truncations.{truncation_matroid};
 ghost use Rattle.parts.specs.Limits.{applications};
-ghost use Rattle.std.proofs.Common.{rules, arith};
 
 use crate::marks::{count, with};
 use crate::numbers::{APPLICATIONS, Application};
@@ -30,7 +29,7 @@ pub struct Truncation<R: Rule> {
 
 // The cap that the value sets.
 fn cap_from(value: u32) -> Result<u16, WriteRefusal>
-    ensures { result ≡ (if leb value 256 then Ok value else Err (refusal_here ValueAboveLimit 0)) }
+    ensures { result ≡ (if nat_le value 256 then Ok value else Err (refusal_here ValueAboveLimit 0)) }
 {
     if value > 256 {
         return Err(WriteRefusal::here(Cause::ValueAboveLimit, 0));
@@ -79,7 +78,7 @@ impl<R: Rule> Rule for Truncation<R> {
 
     ghost written = { capped_written R.Rule.written };
 
-    ghost settings_sound = { first_of (Prim.search rules, Prim.grind (arith, Self.row.coded.inj)) };
+    ghost settings_sound = { λ t. (t.within, R.Rule.settings_sound t.below) };
 
     ghost written_sound = { capped_written_sound R.Rule.sound R.Rule.written R.Rule.written_sound };
 

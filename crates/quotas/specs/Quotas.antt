@@ -1,5 +1,5 @@
 -- The quota tree: its settings, what they mean, and what a write makes of them. Assumes nothing.
-use Rattle.std.specs.Prelude.{ℕ, ◌-◌, ◌<◌, Bool, cond, ◌&&◌, set, replicate, nat_le, nat_lt, slice_index_or, slice_set}
+use Rattle.std.specs.Prelude.{ℕ, ◌-◌, ◌<◌, Bool, cond, ◌&&◌, replicate, nat_le, nat_lt, slice_index_or, slice_set}
 use Rattle.std.proofs.Math.Decide.{dec_lt}
 use Rattle.std.proofs.Common.{lit<}
 use Rattle.matroid.specs.Sets.{Set}

@@ -3,7 +3,7 @@ ghost use Rattle.std.specs.Prelude.{◌≡◌};
 ghost use Rattle.rankings.specs.Holders.{Paired};
 ghost use Rattle.rankings.specs.Ranks.{Distinct, exchanged, rank_before, rank_of, RankedByNumber, ranks_written};
 ghost use Rattle.rankings.specs.RanksLemmas.{paired_distinct, written_distinct};
-ghost use Rattle.std.proofs.Common.{rules, arith};
+ghost use Rattle.std.proofs.Common.{rules};
 
 use parts::numbers::{APPLICATIONS, Application};
 use parts::ranking::Ranking;
@@ -84,7 +84,7 @@ impl Ranking for RankList {
 
     ghost written_sound = { written_distinct };
 
-    ghost order = { first_of (Prim.search rules, Prim.grind (arith, Self.row.coded.inj)) };
+    ghost order = { Prim.search rules };
 
     fn precedes(&self, first: Application, second: Application) -> bool {
         self.rank(first) < self.rank(second)

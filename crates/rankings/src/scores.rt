@@ -2,7 +2,6 @@
 ghost use Rattle.std.specs.Prelude.{◌≡◌, ◌<◌, ◌≤◌, pos, negsuc, ◌-ℤ◌, ◌≤ℤ◌, MatchOption};
 ghost use Rattle.rankings.specs.Scores.{first_scores, score_before, score_of, scores_written, WithinThousand};
 ghost use Rattle.rankings.specs.Scored.{written_within, scores_order};
-ghost use Rattle.std.proofs.Common.{rules, arith};
 
 use parts::numbers::{APPLICATIONS, Application};
 use parts::ranking::Ranking;
@@ -63,7 +62,7 @@ impl Ranking for Scores {
 
     ghost written = { scores_written };
 
-    ghost settings_sound = { first_of (Prim.search rules, Prim.grind (arith, Self.row.coded.inj)) };
+    ghost settings_sound = { λ s. s.within };
 
     ghost written_sound = { written_within };
 

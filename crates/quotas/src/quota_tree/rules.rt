@@ -3,7 +3,6 @@ ghost use Rattle.matroid.specs.Trees.{Rooted};
 ghost use Rattle.quotas.specs.Quotas.{keeps_quotas, parent_of, quotas_written};
 ghost use Rattle.quotas.specs.Groups.{written_rooted};
 ghost use Rattle.quotas.specs.QuotaLaws.{quotas_matroid};
-ghost use Rattle.std.proofs.Common.{rules, arith};
 
 use super::QuotaTree;
 use super::quotas::Quotas;
@@ -22,7 +21,7 @@ impl Rule for QuotaTree {
 
     ghost written = { quotas_written };
 
-    ghost settings_sound = { first_of (Prim.search rules, Prim.grind (arith, Self.row.coded.inj)) };
+    ghost settings_sound = { λ tree. tree.rooted };
 
     ghost written_sound = { written_rooted };
 
