@@ -35,7 +35,6 @@ by-seats""".split()
 STOPS = r"\s(){}\[\];,.:⌜⌝λ«»|`"
 TOKEN = re.compile(rf"(\.?)([^{STOPS}]+)")
 SIGNATURE = re.compile(r"\s*(?:(?:abbrev|unfoldable|pub) )*([^\s:{}()=|]+) : (.*)")
-FIELD = re.compile(r"  pub ([^\s:{}()=|]+) : ")
 CODE = re.compile(r'"(?:[^"\\]|\\.)*"|//[^\n]*|[^"/]+|/', re.S)
 SPAN = re.compile(r"```.*?```|`[^`\n]*`", re.S)
 
@@ -120,6 +119,7 @@ def main():
     for path in logic:
         text = read(path)
         new = respell(text, table, fields)
+        # There a pattern binds the name; elsewhere the check makes it, after the function let_in.
         if path.endswith("seats/proofs/Trials.antt"):
             new = re.sub(r"\blet-in\b", "let_in", new)
         if new != text:

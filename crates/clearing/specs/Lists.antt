@@ -1,6 +1,6 @@
 -- Lists that somebody else made: what each refusal says, when it fits, and what the verdict is. A list
 -- has a byte for each application, 1 where it is listed and 0 where it is not. Assumes nothing.
-use Rattle.std.specs.Prelude.{◌≡◌, ℕ, ◌<◌, ◌≤◌, false, ◌&&◌, List, [], ◌∷◌, ◌++◌, length, Some, None, Ok, Err, codes, decimal, Option, Result, ◌==◌, nat_le, slice_index}
+use Rattle.std.specs.Prelude.{◌≡◌, ◌≢◌, ℕ, ◌<◌, ◌≤◌, false, ◌&&◌, List, [], ◌∷◌, ◌++◌, length, Some, None, Ok, Err, codes, decimal, Option, Result, ◌==◌, nat_le, slice_index}
 use Rattle.matroid.specs.Sets.{Set, ◌∈◌, ◌∪◌, ◌∖◌}
 use Rattle.matroid.specs.Matroids.{Side}
 use Rattle.matroid.specs.Kernels.{dominates, Kernel}
@@ -46,14 +46,14 @@ abbrev pub Smallest : (ℕ → Type 0) → ℕ → Type 0
 Smallest P c = P c × ((x : ℕ) → x < c → P x → ⊥)
 
 module _ (one two : Side) (live : Set) (bytes : List ℕ) where
-  -- when a refusal fits the list
-  abbrev pub Fits : ListRefusal → Type 0
-  Fits Length = length bytes ≡ applications → ⊥
-  Fits (NotAMark c) = Smallest (λ x. 1 < slice_index bytes x) c.0
-  Fits (NotLive c) = Smallest (λ x. x ∈ listed bytes ∖ live) c.0
-  Fits (DependentOnOne c) = Smallest (λ n. one.independent (up_to n (listed bytes)) ≡ false) c.0
-  Fits (DependentOnTwo c) = Smallest (λ n. two.independent (up_to n (listed bytes)) ≡ false) c.0
-  Fits (Undominated c) = Smallest (λ x. x ∈ live ∖ (listed bytes ∪ dominates one (listed bytes) ∪ dominates two (listed bytes))) c.0
+  -- when a refusal fits the list: what it says of the list is so
+  abbrev pub IsFault : ListRefusal → Type 0
+  IsFault Length = length bytes ≢ applications
+  IsFault (NotAMark c) = Smallest (λ x. 1 < slice_index bytes x) c.0
+  IsFault (NotLive c) = Smallest (λ x. x ∈ listed bytes ∖ live) c.0
+  IsFault (DependentOnOne c) = Smallest (λ n. one.independent (up_to n (listed bytes)) ≡ false) c.0
+  IsFault (DependentOnTwo c) = Smallest (λ n. two.independent (up_to n (listed bytes)) ≡ false) c.0
+  IsFault (Undominated c) = Smallest (λ x. x ∈ live ∖ (listed bytes ∪ dominates one (listed bytes) ∪ dominates two (listed bytes))) c.0
 
   -- the list has a byte of 0 or 1 for each application, and those with 1 are a kernel of the live ones
   pub record KernelList : Type 0 where
@@ -63,8 +63,8 @@ module _ (one two : Side) (live : Set) (bytes : List ℕ) where
 
   -- The refusal fits the list, and of those that fit it is the one of the smallest number.
   pub record FirstFault (why : ListRefusal) : Type 0 where
-    pub fits : Fits why
-    pub first : (other : ListRefusal) → (list_refusal other).0 < (list_refusal why).0 → Fits other → ⊥
+    pub fits : IsFault why
+    pub first : (other : ListRefusal) → (list_refusal other).0 < (list_refusal why).0 → IsFault other → ⊥
 
   -- a kernel is accepted, and any other list refused for its first fault
   abbrev pub Verdict : Result (Unit {0}) ListRefusal → Type 0

@@ -1,7 +1,6 @@
 use Rattle.std.proofs.Common.{◌≡◌, ℕ, ◌≤◌, Bool, List, length, arith}
 use Rattle.matroid.specs.Matroids.{Lawful}
 use Rattle.matroid.proofs.Clearings.{clearing_from}
-use Rattle.matroid.proofs.Runs.{turns_bounded}
 use Rattle.std.proofs.lemmas.Bool.{both_ways}
 use Rattle.parts.specs.Limits.{applications}
 use Rattle.clearing.specs.Sides.{side_of}
@@ -41,15 +40,12 @@ pub returns-then-is_last : goal.returns-then-is_last
 returns-then-is_last g c =
     let one = lawful_one g c.args.one.now in
     let two = lawful_two g c.args.two.now in
-    let ended = ends_with _ _ _ _ _ c.after.result.list c.after.ensures.1
+    let all = clearing_from applications _ _ one two _ (marked_below c.args.live.now c.told-live) _ _
+    (ends_with _ _ _ _ _ c.after.result.list c.after.ensures.1
     (running_ends _ _ c.args.live.now c.loop-first.struck c.turn-made.result.struck c.loop-first.before _
     c.loop-first.invariant (c.turn-made.ensures _ _ one.order two.order c.in_order.ensures c.in_order-2.ensures)
-    c.after.result.turns c.after.ensures.0 (c.is_last.ensures.0 c.if-is_last.true)) in
-    record {
-      ends = ended;
-      bounded = turns_bounded applications _ _ one two _ (marked_below c.args.live.now c.told-live) _ _ ended;
-      clearing = clearing_from applications _ _ one two _ (marked_below c.args.live.now c.told-live) _ _ ended;
-    }
+    c.after.result.turns c.after.ensures.0 (c.is_last.ensures.0 c.if-is_last.true))) in
+    record { ends = all.ends; bounded = all.bounded; clearing = all }
 
 pub overflow_add-before : goal.overflow_add-before
 overflow_add-before g c = omega (arith, few_turns g c.args.one.now c.args.two.now _ _ _ c.told-live c.loop-first.invariant)
