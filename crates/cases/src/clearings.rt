@@ -1,9 +1,10 @@
 // Clearings with parts of another author on a side, worked out turn by turn from the rule book.
 use super::foreign::{ByNumber, Gate};
-use super::steps::RuleStep::Accepts;
-use super::steps::{RuleStep, check_rule, marks};
+use super::steps::Step::Accepts;
+use super::steps::{Allows, Step, check, marks};
 use clearing::deferred::clear;
 use clearing::side::Side;
+use parts::part::Part;
 use parts::ranking::Ranking;
 use parts::refusal::WriteRefusal;
 use parts::rule::Rule;
@@ -140,10 +141,15 @@ fn the_last_number_is_offered_first(rt: HostRuntime) -> Result<(), Fail> {
 }
 
 // Applications 0 and 3 are in group 1, which takes one.
-const ONE_OF_0_AND_3: [RuleStep; 3] = [Accepts(1, 1), Accepts(256, 1), Accepts(259, 1)];
+const ONE_OF_0_AND_3: [Step<Allows>; 3] = [Accepts(1, 1), Accepts(256, 1), Accepts(259, 1)];
 
 // Application 0 is allowed places 0 and 1, 1 place 0, 2 place 1, and 3 place 2.
-const THREE_PLACES: [RuleStep; 4] = [Accepts(0, 3), Accepts(1, 1), Accepts(2, 2), Accepts(3, 4)];
+const THREE_PLACES: [Step<Allows>; 4] = [
+    Accepts(0, 3),
+    Accepts(1, 1),
+    Accepts(2, 2),
+    Accepts(3, 4),
+];
 
 // Turn 1: side one offers {0, 1, 2}, since 0 and 3 share a group. Side two takes 2 for place 1 and 1
 // for place 0, which leaves no place for 0: it keeps {1, 2} and strikes {0}. Turn 2: side one offers
@@ -152,9 +158,9 @@ const THREE_PLACES: [RuleStep; 4] = [Accepts(0, 3), Accepts(1, 1), Accepts(2, 2)
 #[test]
 fn seats_by_the_larger_number(rt: HostRuntime) -> Result<(), Fail> {
     let mut tree = QuotaTree::new();
-    check_rule(&rt, &mut tree, &ONE_OF_0_AND_3);
+    check(&rt, "the quota tree", &mut tree, &ONE_OF_0_AND_3);
     let mut bids = SeatBids::new();
-    check_rule(&rt, &mut bids, &THREE_PLACES);
+    check(&rt, "the seat bids", &mut bids, &THREE_PLACES);
     let one = Side {
         rule: &tree,
         ranking: &RankList::new(),

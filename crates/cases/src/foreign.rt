@@ -1,5 +1,5 @@
 // Two parts of another author, a rule and a ranking. Nothing but the interfaces ties them to the
-// supplied parts.
+// supplied parts, or to one another: each is written whole, as one who makes a part would write it.
 ghost use Rattle.std.specs.Prelude.{◌≡◌, true, false, if◌then◌else◌, Ok, Err, ◌==◌, nat_le};
 ghost use Rattle.std.proofs.Common.{rules};
 ghost use Rattle.parts.specs.Outcomes.{refusal_here};
@@ -7,7 +7,9 @@ ghost use Rattle.parts.specs.declared.refusal.Cause.TheVariants.{UnusedKey, Valu
 ghost use Rattle.cases.specs.Foreign.{let_through, number_before, switched};
 ghost use Rattle.cases.specs.Gates.{gate_matroid};
 
-use parts::numbers::{APPLICATIONS, Application};
+use parts::marks::Marks;
+use parts::numbers::Application;
+use parts::part::Part;
 use parts::ranking::Ranking;
 use parts::refusal::{Cause, WriteRefusal};
 use parts::rule::Rule;
@@ -28,7 +30,7 @@ fn switch_from(key: u16, value: u32) -> Result<bool, WriteRefusal>
 }
 
 // A rule that accepts every set while it is open, and none but the empty one while it is closed.
-#[derive(Drop)]
+#[derive(Clone, Copy)]
 pub struct Gate {
     open: bool,
 }
@@ -49,7 +51,7 @@ impl Gate {
     }
 }
 
-impl Rule for Gate {
+impl Part for Gate {
     // whether the gate is open
     type Settings = bool;
 
@@ -57,34 +59,35 @@ impl Rule for Gate {
 
     ghost sound = { λ _. Unit {0} };
 
-    ghost independent = { let_through };
-
     ghost written = { switched };
 
     ghost settings_sound = { Prim.search rules };
 
     ghost written_sound = { Prim.search rules };
 
-    ghost matroid = { λ lets _. gate_matroid lets };
-
-    // A set with the asked number in it has a member.
-    fn allows(&self, _marked: &[bool; APPLICATIONS], _asked: Application) -> bool {
-        self.is_open()
-    }
-
     fn write(&mut self, key: u16, value: u32) -> Result<(), WriteRefusal> {
-        let open = switch_from(key, value)?;
-        *self = Gate { open };
+        self.open = switch_from(key, value)?;
         Ok(())
     }
 
     fn copied(&self) -> Gate {
-        Gate { open: self.open }
+        *self
+    }
+}
+
+impl Rule for Gate {
+    ghost independent = { let_through };
+
+    ghost matroid = { λ lets _. gate_matroid lets };
+
+    // A set with the asked number in it has a member.
+    fn allows(&self, _marked: &Marks, _asked: Application) -> bool {
+        self.is_open()
     }
 }
 
 // A ranking by number alone: rising, with the smaller number first, or falling.
-#[derive(Drop)]
+#[derive(Clone, Copy)]
 pub struct ByNumber {
     falling: bool,
 }
@@ -105,7 +108,7 @@ impl ByNumber {
     }
 }
 
-impl Ranking for ByNumber {
+impl Part for ByNumber {
     // whether the order is falling
     type Settings = bool;
 
@@ -113,33 +116,32 @@ impl Ranking for ByNumber {
 
     ghost sound = { λ _. Unit {0} };
 
-    ghost before = { number_before };
-
     ghost written = { switched };
 
     ghost settings_sound = { Prim.search rules };
 
     ghost written_sound = { Prim.search rules };
 
-    ghost order = { Prim.search rules };
-
-    fn precedes(&self, first: Application, second: Application) -> bool {
-        if self.falling {
-            second.number() < first.number()
-        } else {
-            first.number() < second.number()
-        }
-    }
-
     fn write(&mut self, key: u16, value: u32) -> Result<(), WriteRefusal> {
-        let falling = switch_from(key, value)?;
-        *self = ByNumber { falling };
+        self.falling = switch_from(key, value)?;
         Ok(())
     }
 
     fn copied(&self) -> ByNumber {
-        ByNumber {
-            falling: self.falling,
+        *self
+    }
+}
+
+impl Ranking for ByNumber {
+    ghost before = { number_before };
+
+    ghost order = { Prim.search rules };
+
+    fn precedes(&self, first: Application, second: Application) -> bool {
+        if self.falling {
+            second < first
+        } else {
+            first < second
         }
     }
 }

@@ -1,8 +1,9 @@
 // Cases for the truncation, over a quota tree, over seat bids and over another truncation, and for the
 // depth of a refusal.
-use super::steps::RuleStep::{Accepts, Allows, Refuses};
-use super::steps::{RuleStep, check_part, check_rule, marks};
+use super::steps::Step::{Accepts, No, Refuses, Yes};
+use super::steps::{Allows, Step, check, marks};
 use parts::numbers::Application;
+use parts::part::Part;
 use parts::refusal::Cause::{ParentNotSmaller, UnusedKey, ValueAboveLimit};
 use parts::refusal::WriteRefusal;
 use parts::rule::Rule;
@@ -11,27 +12,27 @@ use quotas::quota_tree::QuotaTree;
 use seats::seat_bids::SeatBids;
 use std::test::Fail;
 
-const CAP: [RuleStep; 14] = [
+const CAP: [Step<Allows>; 14] = [
     // At first the cap never binds.
-    Allows(&[0, 1, 2], 3, true),
+    Yes(Allows(&[0, 1, 2], 3)),
     Accepts(0, 1),
-    Allows(&[], 255, true),
-    Allows(&[0], 255, false),
+    Yes(Allows(&[], 255)),
+    No(Allows(&[0], 255)),
     // A marked number that is asked about is one member.
-    Allows(&[7], 7, true),
+    Yes(Allows(&[7], 7)),
     Refuses(0, 257, ValueAboveLimit, 0, 0),
     Refuses(0, u32::MAX, ValueAboveLimit, 0, 0),
-    Allows(&[], 255, true),
-    Allows(&[0], 255, false),
+    Yes(Allows(&[], 255)),
+    No(Allows(&[0], 255)),
     Accepts(0, 0),
-    Allows(&[], 0, false),
-    Allows(&[], 255, false),
+    No(Allows(&[], 0)),
+    No(Allows(&[], 255)),
     Accepts(0, 256),
-    Allows(&[0, 1, 2], 3, true),
+    Yes(Allows(&[0, 1, 2], 3)),
 ];
 
 // Key k above 0 is key k − 1 of the quota tree.
-const BELOW: [RuleStep; 20] = [
+const BELOW: [Step<Allows>; 20] = [
     Refuses(1, 257, ValueAboveLimit, 1, 0),
     Refuses(129, 0, UnusedKey, 1, 128),
     Refuses(130, 1, ParentNotSmaller, 1, 129),
@@ -39,82 +40,93 @@ const BELOW: [RuleStep; 20] = [
     Refuses(512, 128, ValueAboveLimit, 1, 511),
     Refuses(513, 0, UnusedKey, 1, 512),
     Refuses(65_535, 0, UnusedKey, 1, 65_534),
-    Allows(&[0, 1, 2], 3, true),
+    Yes(Allows(&[0, 1, 2], 3)),
     // The layer takes two, and group 1 below takes one of 0 and 1.
     Accepts(0, 2),
     Accepts(2, 1),
     Accepts(257, 1),
     Accepts(258, 1),
-    Allows(&[0], 2, true),
+    Yes(Allows(&[0], 2)),
     // Within the cap, and not independent below.
-    Allows(&[0], 1, false),
+    No(Allows(&[0], 1)),
     // Independent below, and above the cap.
-    Allows(&[0, 2], 3, false),
+    No(Allows(&[0, 2], 3)),
     Accepts(0, 3),
-    Allows(&[0, 2], 3, true),
-    Allows(&[0], 1, false),
+    Yes(Allows(&[0, 2], 3)),
+    No(Allows(&[0], 1)),
     Accepts(1, 2),
-    Allows(&[0, 2], 3, false),
+    No(Allows(&[0, 2], 3)),
 ];
 
 // Key 0 is the outer cap, key 1 the inner one, and key k above 1 is key k − 2 of the quota tree.
-const TWO_LAYERS: [RuleStep; 20] = [
+const TWO_LAYERS: [Step<Allows>; 20] = [
     Refuses(0, 257, ValueAboveLimit, 0, 0),
     Refuses(1, 257, ValueAboveLimit, 1, 0),
     Refuses(2, 257, ValueAboveLimit, 2, 0),
     Refuses(130, 0, UnusedKey, 2, 128),
     Refuses(131, 1, ParentNotSmaller, 2, 129),
     Refuses(65_535, 0, UnusedKey, 2, 65_533),
-    Allows(&[0, 1, 2], 3, true),
+    Yes(Allows(&[0, 1, 2], 3)),
     // The smallest of the three caps binds.
     Accepts(0, 3),
     Accepts(1, 2),
     Accepts(2, 1),
-    Allows(&[], 0, true),
-    Allows(&[0], 1, false),
+    Yes(Allows(&[], 0)),
+    No(Allows(&[0], 1)),
     Accepts(2, 256),
-    Allows(&[0], 1, true),
-    Allows(&[0, 1], 2, false),
+    Yes(Allows(&[0], 1)),
+    No(Allows(&[0, 1], 2)),
     Accepts(1, 256),
-    Allows(&[0, 1], 2, true),
-    Allows(&[0, 1, 2], 3, false),
+    Yes(Allows(&[0, 1], 2)),
+    No(Allows(&[0, 1, 2], 3)),
     Accepts(0, 256),
-    Allows(&[0, 1, 2], 3, true),
+    Yes(Allows(&[0, 1, 2], 3)),
 ];
 
 // The layer is closed after its copy was made, and the copy then takes a cap and a quota of its own.
-const ORIGINAL: [RuleStep; 2] = [Accepts(0, 0), Allows(&[], 0, false)];
+const ORIGINAL: [Step<Allows>; 2] = [Accepts(0, 0), No(Allows(&[], 0))];
 
-const COPY: [RuleStep; 7] = [
-    Allows(&[], 0, true),
-    Allows(&[0], 1, true),
+const COPY: [Step<Allows>; 7] = [
+    Yes(Allows(&[], 0)),
+    Yes(Allows(&[0], 1)),
     Accepts(0, 1),
-    Allows(&[], 0, true),
-    Allows(&[0], 1, false),
+    Yes(Allows(&[], 0)),
+    No(Allows(&[0], 1)),
     Accepts(1, 0),
-    Allows(&[], 0, false),
+    No(Allows(&[], 0)),
 ];
 
-const REOPENED: [RuleStep; 3] = [
-    Allows(&[], 0, false),
-    Accepts(0, 256),
-    Allows(&[0], 1, true),
-];
+const REOPENED: [Step<Allows>; 3] = [No(Allows(&[], 0)), Accepts(0, 256), Yes(Allows(&[0], 1))];
 
 #[test]
 fn cap(rt: HostRuntime) {
-    check_rule(&rt, &mut Truncation::over(QuotaTree::new()), &CAP);
+    check(
+        &rt,
+        "the truncation",
+        &mut Truncation::over(QuotaTree::new()),
+        &CAP,
+    );
 }
 
 #[test]
 fn over_a_quota_tree(rt: HostRuntime) {
-    check_rule(&rt, &mut Truncation::over(QuotaTree::new()), &BELOW);
+    check(
+        &rt,
+        "the truncation",
+        &mut Truncation::over(QuotaTree::new()),
+        &BELOW,
+    );
 }
 
 #[test]
 fn over_another(rt: HostRuntime) {
     let inner = Truncation::over(QuotaTree::new());
-    check_rule(&rt, &mut Truncation::over(inner), &TWO_LAYERS);
+    check(
+        &rt,
+        "the truncation",
+        &mut Truncation::over(inner),
+        &TWO_LAYERS,
+    );
 }
 
 // The example of the README.
@@ -125,9 +137,9 @@ fn over_seat_bids(rt: HostRuntime) -> Result<(), Fail> {
     rule.write(1, 0b011)?;
     rule.write(2, 0b001)?;
     rule.write(3, 0b100)?;
-    assert!(rt; rule.allows(&marks(&[0]), Application::new(1)));
+    assert!(rt; rule.allows(&marks(&[0]), Application::from(1)));
     assert!(rt; rule.below().assignment(&marks(&[0, 1, 2])).is_some());
-    assert!(rt; !rule.allows(&marks(&[0, 1]), Application::new(2)));
+    assert!(rt; !rule.allows(&marks(&[0, 1]), Application::from(2)));
     Ok(())
 }
 
@@ -135,9 +147,9 @@ fn over_seat_bids(rt: HostRuntime) -> Result<(), Fail> {
 fn copies(rt: HostRuntime) {
     let mut original = Truncation::over(QuotaTree::new());
     let mut copy = original.copied();
-    check_part(&rt, "the original", &mut original, &ORIGINAL);
-    check_part(&rt, "the copy", &mut copy, &COPY);
-    check_part(
+    check(&rt, "the original", &mut original, &ORIGINAL);
+    check(&rt, "the copy", &mut copy, &COPY);
+    check(
         &rt,
         "the original, after writes to the copy",
         &mut original,

@@ -1,3 +1,3 @@
 pub mod Greedy
 pub mod Running
-pub mod Selection
+pub mod Sorting

@@ -1,5 +1,5 @@
 -- Rows of all the applications, and rows in the order of a ranking. Assumes nothing.
-use Rattle.std.specs.Prelude.{◌≡◌, ℕ, ◌<◌, ◌≤◌, Bool, true, List, length, ◌≢◌, slice_index_or}
+use Rattle.std.specs.Prelude.{◌≡◌, ℕ, ◌<◌, Bool, true, List, length, slice_index_or}
 use Rattle.parts.specs.Limits.{applications}
 use Rattle.parts.specs.declared.numbers.Application.{Application}
 
@@ -13,12 +13,6 @@ pub record Complete (row : List Application) : Type 0 where
   pub below : (i : ℕ) → i < applications → number_at row i < applications
   pub once : (i j : ℕ) → i < applications → j < applications → number_at row i ≡ number_at row j → i ≡ j
   pub stands : (x : ℕ) → x < applications → (i : ℕ) × (i < applications) × (number_at row i ≡ x)
-
--- from the place `from` on and before `until`, the application at the place `first` precedes every other
-pub record First (before : ℕ → ℕ → Bool) (row : List Application) (from until first : ℕ) : Type 0 where
-  pub after : from ≤ first
-  pub within : first < until
-  pub precedes : (i : ℕ) → from ≤ i → i < until → (i ≢ first) → before (number_at row first) (number_at row i) ≡ true
 
 -- the row holds every application, each before those that it precedes
 pub record InOrder (before : ℕ → ℕ → Bool) (row : List Application) : Type 0 where

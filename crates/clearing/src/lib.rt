@@ -3,7 +3,6 @@
 
 pub mod choice;
 pub mod deferred;
-mod marks;
 mod order;
 pub mod refusal;
 pub mod side;

@@ -23,7 +23,8 @@ pub enum ListRefusal {
 }
 
 impl ListRefusal {
-    // The number of the refusal in the rule book.
+    // The number of the refusal in the rule book. The variants hold applications, so they have no
+    // discriminants to read.
     pub fn number(self) -> u8
         ensures { result ≡ (list_refusal self).0 }
     {
@@ -43,15 +44,16 @@ impl ListRefusal {
     {
         match self {
             ListRefusal::Length => None,
-            ListRefusal::NotAMark(at) => Some(at),
-            ListRefusal::NotLive(at) => Some(at),
-            ListRefusal::DependentOnOne(at) => Some(at),
-            ListRefusal::DependentOnTwo(at) => Some(at),
-            ListRefusal::Undominated(at) => Some(at),
+            ListRefusal::NotAMark(at)
+            | ListRefusal::NotLive(at)
+            | ListRefusal::DependentOnOne(at)
+            | ListRefusal::DependentOnTwo(at)
+            | ListRefusal::Undominated(at) => Some(at),
         }
     }
 }
 
+// By hand, since a derive would say nothing of the text.
 impl fmt::Display for ListRefusal {
     ghost output = { λ refusal. Some (list_refusal_text refusal) };
 
@@ -59,32 +61,25 @@ impl fmt::Display for ListRefusal {
         match self {
             ListRefusal::Length => f.write_str("list refused: it is not 256 bytes long"),
             ListRefusal::NotAMark(at) => {
-                let place = at.number();
-                write!(f, "list refused: the byte at place {place} is above 1")
+                write!(f, "list refused: the byte at place {at} is above 1")
             }
-            ListRefusal::NotLive(at) => {
-                let number = at.number();
-                write!(f, "list refused: {number} is listed and not live")
-            }
+            ListRefusal::NotLive(at) => write!(f, "list refused: {at} is listed and not live"),
             ListRefusal::DependentOnOne(at) => {
-                let number = at.number();
                 write!(
                     f,
-                    "list refused: up to {number} it is not independent on side one"
+                    "list refused: up to {at} it is not independent on side one"
                 )
             }
             ListRefusal::DependentOnTwo(at) => {
-                let number = at.number();
                 write!(
                     f,
-                    "list refused: up to {number} it is not independent on side two"
+                    "list refused: up to {at} it is not independent on side two"
                 )
             }
             ListRefusal::Undominated(at) => {
-                let number = at.number();
                 write!(
                     f,
-                    "list refused: {number} is live, not listed, and dominated on neither side"
+                    "list refused: {at} is live, not listed, and dominated on neither side"
                 )
             }
         }

@@ -3,7 +3,8 @@
 -- obstruction, that where the members who fill some places are allowed no others, no other member
 -- can be placed there. Assumes nothing.
 use Rattle.std.proofs.Common.{◌≡◌, ℕ, zero, suc, ◌<◌, ◌≤◌, Bool, true, cond, ◌&&◌, eqb, sym, refl, ◌∙◌, inl, inr, arith}
-use Rattle.std.proofs.lemmas.Bool.{and_from, and_parts, both_ways, cases_Bool, cases_eq, cond-false, cond-true, eq-eqb, ne_eqb}
+use Rattle.std.proofs.lemmas.Bool.{and_from, and_parts, both_ways, cases_Bool, cases_eq}
+use Rattle.std.proofs.lemmas.Bool.Decides.{nat_tests}
 use Rattle.matroid.specs.Sets.{Set, ◌∈◌, ◌∉◌, ◌∖◌, card}
 use Rattle.matroid.specs.Assignments.{Assignment, placeable}
 use Rattle.matroid.specs.Theorems.{AssignableByAssignment}
@@ -16,11 +17,11 @@ put place t p x = cond (eqb x t) p (place x)
 
 pub put_here : (place : ℕ → ℕ) (t p : ℕ) → put place t p t ≡ p
 unfolding put
-put_here place t p = cond-true (eqb t t) p (place t) (eq-eqb t t refl)
+put_here place t p = grind (arith, nat_tests)
 
 pub put_other : (place : ℕ → ℕ) (t p x : ℕ) → (x ≡ t → ⊥) → put place t p x ≡ place x
 unfolding put
-put_other place t p x other = cond-false (eqb x t) p (place x) (ne_eqb x t other)
+put_other place t p x other = grind (arith, nat_tests)
 
 module _ (m : ℕ) (allowed : ℕ → ℕ → Bool) where
   -- what lies within an assigned set keeps the same places

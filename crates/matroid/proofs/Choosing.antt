@@ -1,70 +1,57 @@
 -- The choice of a side from a set: it exists, it is independent, it spans what it was chosen from, no
 -- independent set of what was offered is larger, and it leaves out exactly what it dominates; and an
 -- independent part of a set that dominates the rest is the choice from it. Assumes nothing.
-use Rattle.std.proofs.Common.{◌≡◌, ℕ, zero, suc, ◌<◌, ◌≤◌, true, false, not, ◌&&◌, eqb, sym, ap, ◌∙◌, inl, inr, arith}
+use Rattle.std.proofs.Common.{◌≡◌, ℕ, zero, suc, ◌<◌, ◌≤◌, true, false, ◌&&◌, eqb, sym, ◌∙◌, inl, inr, arith}
 use mathlib.Core.Path.{fun_ext}
-use Rattle.std.proofs.lemmas.Bool.{and_from, and_left, and_parts, and_right, or_left, or_right, both_ways, cases_Bool, cases_eq, cases_lt, not_from_false, not-true}
+use Rattle.std.proofs.lemmas.Bool.{both_ways, cases_Bool, cases_eq, cases_lt}
+use Rattle.std.proofs.lemmas.Bool.Decides.{nat_tests}
 use Rattle.matroid.specs.Sets.{Set, ◌∈◌, ◌∉◌, ◌⊆◌, ∅, ◌∩◌, ◌∖◌, add, Below, card}
 use Rattle.matroid.specs.Matroids.{Side, Lawful}
 use Rattle.matroid.specs.Choices.{preceding, Choice}
 use Rattle.matroid.specs.Kernels.{dominates, spans}
 use Rattle.matroid.proofs.Cards.{add_here, add_other, add_part}
 use Rattle.matroid.proofs.Lasts.{asymmetric, Last, last_or_none}
-use Rattle.matroid.proofs.Pigeonhole.{card_without, without_here, without_other, without_parts}
-use Rattle.matroid.proofs.Sets.{left_by, outside_from}
+use Rattle.matroid.proofs.Pigeonhole.{card_without, without_here, without_parts}
 
 -- a set that lies within another does so too when both get the same new member
 pub add_mono : (S U : Set) (x : ℕ) → S ⊆ U → add S x ⊆ add U x
-add_mono S U x part = add_part S (add U x) x (λ y h. or_left (U y) (eqb y x) (part y h)) (add_here U x)
+add_mono S U x part = grind arith
 
 module _ (side : Side) where
   pub preceding_within : (K : Set) (x : ℕ) → preceding side K x ⊆ K
-  preceding_within K x y h = (and_parts (K y) (side.precedes y x) h).0
+  preceding_within K x = grind arith
 
   -- a new member that does not precede x changes nothing before x
   pub preceding_add : (K : Set) (a x : ℕ) → side.precedes a x ≡ false → preceding side (add K a) x ≡ preceding side K x
-  preceding_add K a x behind = fun_ext (λ y. elim (cases_eq y a) [
-    | inl e ↦ rw e (and_right (add K a a) (side.precedes a x) behind ∙ sym (and_right (K a) (side.precedes a x) behind))
-    | inr ne ↦ ap (λ b. b && side.precedes y x) (add_other K a y ne)
-  ])
+  preceding_add K a x behind = fun_ext (λ y. grind (arith, nat_tests))
 
   pub preceding_all : (K : Set) (x : ℕ) → ((y : ℕ) → y ∈ K → side.precedes y x ≡ true) → preceding side K x ≡ K
-  preceding_all K x all = fun_ext (λ y. elim (cases_Bool (K y))
-      [ inl member ↦ rw (member, all y member) | inr out ↦ rw out ])
+  preceding_all K x all = fun_ext (λ y. grind (arith, all y))
 
 module _ (side : Side) (A K : Set) (choice : Choice side A K) where
   pub chosen_within : K ⊆ A
-  chosen_within x chosen = (and_parts (A x) _ (sym (choice x) ∙ chosen)).0
+  chosen_within x chosen = grind (arith, choice x)
 
   pub chosen_fits : (x : ℕ) → x ∈ K → side.independent (add (preceding side K x) x) ≡ true
-  chosen_fits x chosen = (and_parts (A x) (side.independent (add (preceding side K x) x)) (sym (choice x) ∙ chosen)).1
+  chosen_fits x chosen = grind (arith, choice x)
 
   pub fitting_chosen : (x : ℕ) → x ∈ A → side.independent (add (preceding side K x) x) ≡ true → x ∈ K
-  fitting_chosen x within fits = choice x ∙ and_from (A x) (side.independent (add (preceding side K x) x)) within fits
+  fitting_chosen x within fits = grind (arith, choice x)
 
   pub left_dominated : (x : ℕ) → x ∈ A → x ∉ K → x ∈ dominates side K
-  left_dominated x within out = elim (cases_Bool (side.independent (add (preceding side K x) x))) [
-    | inl fits ↦ absurd (both_ways (K x) out (fitting_chosen x within fits))
-    | inr unfit ↦ not_from_false (side.independent (add (preceding side K x) x)) unfit
-  ]
+  left_dominated x within out = grind (arith, choice x)
 
   pub leaves_dominated : A ∖ K ≡ A ∩ dominates side K
-  leaves_dominated = fun_ext (λ x. ap (λ b. A x && not b) (choice x)
-      ∙ left_by (A x) (side.independent (add (preceding side K x) x)))
+  leaves_dominated = fun_ext (λ x. grind (arith, choice x))
 
 module _ (n : ℕ) (side : Side) (lawful : Lawful n side) where
   -- an independent part of B that dominates the rest of B is the choice from B
   pub dominating_chosen : (B K : Set) → K ⊆ B → side.independent K ≡ true → B ∖ K ⊆ dominates side K → Choice side B K
-  dominating_chosen B K part fits rest x = elim (cases_Bool (K x)) [
-    | inl member ↦ member ∙ sym (and_from (B x) (side.independent (add (preceding side K x) x)) (part x member)
-        (lawful.matroid.subset (add (preceding side K x) x) K
-        (add_part (preceding side K x) K x (preceding_within side K x) member) fits))
-    | inr out ↦ elim (cases_Bool (B x)) [
-      | inl within ↦ out ∙ sym (and_right (B x) (side.independent (add (preceding side K x) x))
-          (not-true (side.independent (add (preceding side K x) x)) (rest x (outside_from B K x within out))))
-      | inr none ↦ out ∙ sym (and_left (B x) (side.independent (add (preceding side K x) x)) none)
-    ]
-  ]
+  dominating_chosen B K part fits rest x =
+      let chosen : x ∈ K → side.independent (add (preceding side K x) x) ≡ true = λ member.
+      lawful.matroid.subset (add (preceding side K x) x) K
+      (add_part (preceding side K x) K x (preceding_within side K x) member) fits in
+      grind (arith, chosen, part x, rest x)
 
   module _ (A K : Set) (below : Below n A) (choice : Choice side A K) where
     -- a part of the choice lies within its last member and those that precede it, which were chosen together
@@ -77,18 +64,14 @@ module _ (n : ℕ) (side : Side) (lawful : Lawful n side) where
 
         nothing : ((x : ℕ) → x < n → x ∉ S) → side.independent S ≡ true
         nothing none = lawful.matroid.subset S ∅
-            (λ x h. absurd (both_ways (S x) (none x (chosen_below x h)) h)) lawful.matroid.empty
+            (λ x h. grind (arith, none x, chosen_below x)) lawful.matroid.empty
 
         some : Last n side.precedes S → side.independent S ≡ true
         some last = lawful.matroid.subset S (add (preceding side K last.at) last.at) up_to_last
             (chosen_fits side A K choice last.at (part last.at last.member))
           where
             up_to_last : S ⊆ add (preceding side K last.at) last.at
-            up_to_last x h = elim (cases_eq x last.at) [
-              | inl same ↦ rw same (add_here (preceding side K last.at) last.at)
-              | inr other ↦ or_left (preceding side K last.at x) (eqb x last.at)
-                  (and_from (K x) (side.precedes x last.at) (part x h) (last.after x (chosen_below x h) h other))
-            ]
+            up_to_last x h = grind (arith, nat_tests, part x, last.after x, chosen_below x)
 
     pub chosen_independent : side.independent K ≡ true
     chosen_independent = part_independent K (λ x h. h)
@@ -100,10 +83,7 @@ module _ (n : ℕ) (side : Side) (lawful : Lawful n side) where
         (add_mono (preceding side K x) K x (preceding_within side K x)) fits)
 
     pub chosen_spans : A ⊆ spans side K
-    chosen_spans x within = elim (cases_Bool (side.independent (add K x))) [
-      | inl fits ↦ or_left (K x) (not (side.independent (add K x))) (joining_chosen x within fits)
-      | inr unfit ↦ or_right (K x) (not (side.independent (add K x))) (not_from_false (side.independent (add K x)) unfit)
-    ]
+    chosen_spans x within = grind (arith, joining_chosen x)
 
     pub chosen_largest : (J : Set) → J ⊆ A → side.independent J ≡ true → card n J ≤ card n K
     chosen_largest J part fits = elim (cases_lt (card n K) (card n J)) [
@@ -125,15 +105,11 @@ module _ (n : ℕ) (side : Side) (lawful : Lawful n side) where
         earlier y within (λ e. other (sym e)))
 
     not_chosen : last.at ∉ K
-    not_chosen = choice last.at ∙ and_left ((A ∖ eqb last.at) last.at) _ (without_here A last.at)
+    not_chosen = grind (arith, choice last.at, without_here A last.at)
 
     -- any other number is chosen from A as it is from A without the last member
     elsewhere : (x : ℕ) → (x ≡ last.at → ⊥) → K x ≡ (A x && side.independent (add (preceding side K x) x))
-    elsewhere x other = choice x ∙ elim (cases_Bool (A x)) [
-      | inl within ↦ rw (without_other A last.at x within (λ e. other (sym e)), within)
-      | inr none ↦ and_left ((A ∖ eqb last.at) x) _ (and_left (A x) (not (eqb last.at x)) none)
-          ∙ sym (and_left (A x) (side.independent (add (preceding side K x) x)) none)
-    ]
+    elsewhere x other = grind (arith, nat_tests, choice x)
 
     choice_joined : side.independent (add K last.at) ≡ true → Choice side A (add K last.at)
     choice_joined fits x = elim (cases_eq x last.at) [ inl e ↦ rw e here | inr other ↦ there other ]
@@ -153,27 +129,21 @@ module _ (n : ℕ) (side : Side) (lawful : Lawful n side) where
           | inl within ↦ rw (preceding_add side K last.at x (asymmetric n side.precedes lawful.order x last.at
               (below x within) last.below (earlier x within other)))
               (add_other K last.at x other ∙ elsewhere x other)
-          | inr none ↦ add_other K last.at x other ∙ elsewhere x other
-              ∙ and_left (A x) (side.independent (add (preceding side K x) x)) none
-              ∙ sym (and_left (A x) (side.independent (add (preceding side (add K last.at) x) x)) none)
+          | inr none ↦ grind (arith, add_other K last.at x other, elsewhere x other)
         ]
 
     choice_stays : side.independent (add K last.at) ≡ false → Choice side A K
     choice_stays unfit x = elim (cases_eq x last.at) [ inl e ↦ rw e here | inr other ↦ elsewhere x other ]
       where
         here : K last.at ≡ (A last.at && side.independent (add (preceding side K last.at) last.at))
-        here = rw (all_earlier, unfit) (not_chosen ∙ sym (and_right (A last.at) false (cc)))
+        here = rw (all_earlier, unfit) (grind (arith, not_chosen))
 
     choice_grown : (M : Set) × Choice side A M
     choice_grown = elim (cases_Bool (side.independent (add K last.at)))
         [ inl fits ↦ (add K last.at, choice_joined fits) | inr unfit ↦ (K, choice_stays unfit) ]
 
   choice_of_none : (A : Set) → Below n A → ((x : ℕ) → x < n → x ∉ A) → (K : Set) × Choice side A K
-  choice_of_none A below none = (∅, λ x. sym (and_left (A x) (side.independent (add (preceding side ∅ x) x)) (nowhere x)))
-    where
-      nowhere : (x : ℕ) → x ∉ A
-      nowhere x = elim (cases_Bool (A x))
-          [ inl within ↦ absurd (both_ways (A x) (none x (below x within)) within) | inr out ↦ out ]
+  choice_of_none A below none = (∅, λ x. grind (arith, none x, below x))
 
   choice_of_few : (most : ℕ) (A : Set) → Below n A → card n A ≤ most → (K : Set) × Choice side A K
   choice_of_few zero A below few = elim (last_or_none n side.precedes lawful.order A n (omega arith)) [

@@ -4,7 +4,7 @@ use Rattle.matroid.specs.Clearings.{Clearing}
 use Rattle.matroid.specs.Matroids.{Side, Lawful}
 use Rattle.matroid.specs.Sets.{Set, Below}
 use Rattle.matroid.specs.Turns.{Ends}
-use Rattle.matroid.proofs.Kernels.{kernels_are_alike_lem, list_is_a_kernel, list_is_best}
+use Rattle.matroid.proofs.Kernels.{every_kernel_is_alike, list_is_a_kernel, list_is_best}
 use Rattle.matroid.proofs.Once.{ends_once}
 use Rattle.matroid.proofs.Runs.{turns_bounded}
 
@@ -18,6 +18,6 @@ module _ (n : ℕ) (one two : Side) (lawful_one : Lawful n one) (lawful_two : La
     serves = record {
       kernel = list_is_a_kernel n one two lawful_one lawful_two live below turns list ends;
       best = list_is_best n one two lawful_one lawful_two live below turns list ends;
-      alike = kernels_are_alike_lem n one two lawful_one lawful_two live below turns list ends;
+      alike = every_kernel_is_alike n one two lawful_one lawful_two live below turns list ends;
     };
   }

@@ -1,16 +1,14 @@
 -- Deferred acceptance ends: a turn can always be made, since the sides have their choices, and each turn
 -- but the last strikes one application more. Assumes nothing.
 use Rattle.std.proofs.Common.{◌≡◌, ℕ, zero, suc, ◌+◌, ◌<◌, ◌≤◌, ◌⊎◌, refl, ap, subst, inl, inr, arith}
-use Rattle.std.proofs.lemmas.Bool.{or_cases}
 use Rattle.matroid.specs.Sets.{Set, ◌⊆◌, ◌∪◌, ◌∖◌, Below, card}
 use Rattle.matroid.specs.Matroids.{Side, Lawful}
 use Rattle.matroid.specs.Choices.{Choice}
 use Rattle.matroid.specs.Turns.{Turn, Run, start, next, Ends}
-use Rattle.matroid.specs.Theorems.{EndsAlways}
 use Rattle.matroid.proofs.Cards.{card_mono, different_below}
 use Rattle.matroid.proofs.Choosing.{choice_exists, chosen_within}
-use Rattle.matroid.proofs.Runs.{more_struck, same_live, shown_live, struck_live, struck_shown}
-use Rattle.matroid.proofs.Sets.{outside_parts}
+use Rattle.matroid.proofs.Runs.{more_struck, shown_live, struck_live, struck_shown}
+use Rattle.matroid.proofs.Sets.{outside_parts, same_below}
 
 module _ (n : ℕ) (one two : Side) (lawful_one : Lawful n one) (lawful_two : Lawful n two)
     (live : Set) (below : Below n live) where
@@ -21,10 +19,7 @@ module _ (n : ℕ) (one two : Side) (lawful_one : Lawful n one) (lawful_two : La
       (offered, (struck ∪ offered) ∖ kept, record { kept = kept; offers = offers; keeps = keeps; strikes = refl })
     where
       shown : (offered : Set) → Choice one (live ∖ struck) offered → struck ∪ offered ⊆ live
-      shown offered offers x h = elim (or_cases (struck x) (offered x) h) [
-        | inl old ↦ part x old
-        | inr new ↦ (outside_parts live struck x (chosen_within one (live ∖ struck) offered offers x new)).0
-      ]
+      shown offered offers x h = grind (arith, part x, chosen_within one (live ∖ struck) offered offers x)
 
   -- what comes of one more turn: it is the last, or the run goes on with more struck than before
   record Longer (turns : ℕ) (struck : Set) : Type 0 where
@@ -35,7 +30,7 @@ module _ (n : ℕ) (one two : Side) (lawful_one : Lawful n one) (lawful_two : La
   one_more : {turns : ℕ} {struck : Set} → Run one two live turns struck
       → ((list : Set) × Ends one two live (turns + 1) list) ⊎ Longer turns struck
   one_more {turns} {struck} run =
-      let (offered, struck', turn) = turn_exists struck (struck_live n one two lawful_one lawful_two live below run) in
+      let (offered, struck', turn) = turn_exists struck (struck_live run) in
       elim (different_below n struck' struck) [
         | inl (x, low, differ) ↦ inr (longer offered struck' turn (λ same. differ (ap (λ S. S x) same)))
         | inr same ↦ inl (offered, last offered struck' turn same)
@@ -51,38 +46,27 @@ module _ (n : ℕ) (one two : Side) (lawful_one : Lawful n one) (lawful_two : La
       last : (offered struck' : Set) → Turn one two live struck offered struck' → ((x : ℕ) → x < n → struck' x ≡ struck x)
           → Ends one two live (turns + 1) offered
       last offered struck' turn same =
-          let part = struck_live n one two lawful_one lawful_two live below run in
           let to : Set → Type 0 = λ R. Turn one two live struck offered R in
           record {
             before = turns;
             struck = struck;
             run = run;
-            last = subst to (same_live n one two lawful_one lawful_two live below struck' struck
-                (struck_in_live offered struck' turn) part same) turn;
+            last = subst to (same_below n struck' struck
+                (λ x h. below x (shown_live turn (struck_live run) x (struck_shown turn x h).0))
+                (λ x h. below x (struck_live run x h)) same) turn;
             count = refl;
           }
-        where
-          struck_in_live : (offered struck' : Set) → Turn one two live struck offered struck' → struck' ⊆ live
-          struck_in_live offered struck' turn x h = shown_live one two live struck offered struck' turn
-              (struck_live n one two lawful_one lawful_two live below run) x
-              (struck_shown one two live struck offered struck' turn x h).0
 
   ending : (left : ℕ) {turns : ℕ} {struck : Set} → Run one two live turns struck → card n live ≤ card n struck + left
       → (t : ℕ) × (list : Set) × Ends one two live t list
   ending zero {turns} run room = elim (one_more run) [
     | inl (list, ends) ↦ (turns + 1, list, ends)
-    | inr longer ↦ absurd (omega (
-      arith,
-      longer.more,
-      card_mono n longer.struck' live
-          (struck_live n one two lawful_one lawful_two live below longer.run),
-    ))
+    | inr longer ↦ absurd (omega (arith, longer.more, card_mono n longer.struck' live (struck_live longer.run)))
   ]
   ending (suc left) {turns} run room = elim (one_more run) [
     | inl (list, ends) ↦ (turns + 1, list, ends)
     | inr longer ↦ ending left longer.run (omega (arith, longer.more))
   ]
 
-pub ends_always : EndsAlways
-ends_always n one two lawful_one lawful_two live below =
-    ending n one two lawful_one lawful_two live below (card n live) start (omega arith)
+  pub ends_always : (turns : ℕ) × (list : Set) × Ends one two live turns list
+  ends_always = ending (card n live) start (omega arith)

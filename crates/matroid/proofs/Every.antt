@@ -1,25 +1,26 @@
 -- What `every` and `some` say: the test passes at each number below the bound, or at one of them,
 -- which `latest` finds. Assumes nothing.
-use Rattle.std.proofs.Common.{◌≡◌, ℕ, zero, suc, ◌<◌, Bool, true, false, cond, not, refl, inl, inr, arith}
-use Rattle.std.proofs.lemmas.Bool.{and_cases, and_parts, and_from, both_ways, cases_Bool, cases_eq, not-false, not_from_false, not_from_true, not-true}
+use Rattle.std.proofs.Common.{◌≡◌, ℕ, zero, suc, ◌<◌, Bool, true, false, cond, not, ◌&&◌, ◌||◌, refl, inl, inr, arith}
+use Rattle.std.proofs.Math.Bool.{and_comm}
+use Rattle.std.proofs.lemmas.Bool.{both_ways, cases_Bool, false_from_ne_true}
+use Rattle.std.proofs.lemmas.Bool.Decides.{Decides-below_and, Decides-below_or}
+use Rattle.std.specs.Prelude.{Decides}
 use Rattle.matroid.specs.Tests.{every, some}
 
-pub every_at : (m : ℕ) (test : ℕ → Bool) → every m test ≡ true → (g : ℕ) → g < m → test g ≡ true
+every_decides : (m : ℕ) (test : ℕ → Bool) → Decides (every m test) ((g : ℕ) → g < m → test g ≡ true)
 unfolding every
-every_at zero test h g l = absurd (omega arith)
-every_at (suc m) test h g l =
-    let both = and_parts (every m test) (test m) h in
-    elim (cases_eq g m) [ inl e ↦ rw e both.1 | inr ne ↦ every_at m test both.0 g (omega arith) ]
+every_decides m test = Decides-below_and test (λ g. test g ≡ true) (λ k. every k test)
+    (λ g. (λ h. h, λ h. h)) refl (λ k. and_comm (every k test) (test k)) m
+
+pub every_at : (m : ℕ) (test : ℕ → Bool) → every m test ≡ true → (g : ℕ) → g < m → test g ≡ true
+every_at m test = (every_decides m test).0
 
 pub every_from : (m : ℕ) (test : ℕ → Bool) → ((g : ℕ) → g < m → test g ≡ true) → every m test ≡ true
-unfolding every
-every_from zero test h = refl
-every_from (suc m) test h =
-    and_from (every m test) (test m) (every_from m test (λ g l. h g (omega arith))) (h m (omega arith))
+every_from m test = (every_decides m test).1
 
 pub every_not : (m : ℕ) (test : ℕ → Bool) (g : ℕ) → g < m → test g ≡ false → every m test ≡ false
-every_not m test g l fails = elim (cases_Bool (every m test))
-    [ inl passes ↦ absurd (both_ways (test g) fails (every_at m test passes g l)) | inr out ↦ out ]
+every_not m test g l fails =
+    false_from_ne_true (every m test) (λ passes. both_ways (test g) fails (every_at m test passes g l))
 
 pub every_same : (m : ℕ) (p q : ℕ → Bool) → ((g : ℕ) → g < m → p g ≡ q g) → every m p ≡ every m q
 unfolding every
@@ -29,23 +30,20 @@ every_same (suc m) p q same =
     let here : p m ≡ q m = same m (omega arith) in
     cc
 
--- where not every number passes, one fails
-every_fails : (m : ℕ) (test : ℕ → Bool) → every m test ≡ false → (g : ℕ) × (g < m) × (test g ≡ false)
+-- not all fail where the last one passes or not all before it fail
+not_all_fail : (before last : Bool) → not (before && not last) ≡ (last || not before)
+not_all_fail before last = grind arith
+
+some_decides : (m : ℕ) (test : ℕ → Bool) → Decides (some m test) ((g : ℕ) × (g < m) × (test g ≡ true))
 unfolding every
-every_fails zero test h = absurd (both_ways true h refl)
-every_fails (suc m) test h = elim (and_cases (every m test) (test m) h) [
-  | inl before ↦ let (g, l, fails) = every_fails m test before in (g, omega arith, fails)
-  | inr here ↦ (m, omega arith, here)
-]
+some_decides m test = Decides-below_or test (λ g. test g ≡ true) (λ k. some k test)
+    (λ g. (λ h. h, λ h. h)) refl (λ k. not_all_fail (every k (λ x. not (test x))) (test k)) m
 
 pub some_at : (m : ℕ) (test : ℕ → Bool) → some m test ≡ true → (g : ℕ) × (g < m) × (test g ≡ true)
-some_at m test h =
-    let (g, l, fails) = every_fails m (λ x. not (test x)) (not-true (every m (λ x. not (test x))) h) in
-    (g, l, not-false (test g) fails)
+some_at m test = (some_decides m test).0
 
 pub some_from : (m : ℕ) (test : ℕ → Bool) (g : ℕ) → g < m → test g ≡ true → some m test ≡ true
-some_from m test g l passes = not_from_false (every m (λ x. not (test x)))
-    (every_not m (λ x. not (test x)) g l (not_from_true (test g) passes))
+some_from m test g l passes = (some_decides m test).1 (g, l, passes)
 
 -- the last number below m that passes the test
 unfoldable pub latest : ℕ → (ℕ → Bool) → ℕ

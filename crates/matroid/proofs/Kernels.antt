@@ -1,14 +1,13 @@
 -- The list of deferred acceptance is a kernel, no kernel serves side one better, and every kernel has
 -- its size and its spans. No member of a kernel is ever struck: in a turn the kernel dominates on side
 -- two what side one offers beside it, so side two, shown all this, would keep the kernel. Assumes nothing.
-use Rattle.std.proofs.Common.{◌≡◌, ℕ, ◌<◌, ◌≤◌, true, not, eqb, sym, refl, subst, inl, inr, le_antisymm, arith}
-use Rattle.std.proofs.lemmas.Bool.{and_from, and_parts, or_cases, or_left, or_parts, or_right, both_ways, cases_Bool, eqb-true, not-false, not-true}
-use Rattle.matroid.specs.Sets.{Set, ◌∈◌, ◌∉◌, ◌⊆◌, ∅, ◌∪◌, ◌∩◌, ◌∖◌, add, Below, card}
+use Rattle.std.proofs.Common.{◌≡◌, ℕ, ◌<◌, ◌≤◌, true, not, eqb, sym, subst, inl, inr, le_antisymm, arith}
+use Rattle.std.proofs.lemmas.Bool.{or_cases, or_left, or_parts, or_right, both_ways, eqb-true, false≢true, false_from_ne_true, not-false, true_from_ne_false}
+use Rattle.matroid.specs.Sets.{Set, ◌∈◌, ◌∉◌, ◌⊆◌, ◌∪◌, ◌∩◌, ◌∖◌, add, Below, card}
 use Rattle.matroid.specs.Matroids.{Side, Lawful}
 use Rattle.matroid.specs.Choices.{Choice}
 use Rattle.matroid.specs.Kernels.{dominates, spans, Kernel, Alike}
 use Rattle.matroid.specs.Turns.{Turn, Run, start, next, Ends}
-use Rattle.matroid.specs.Theorems.{ListIsAKernel, ListIsBest, KernelsAreAlike}
 use Rattle.matroid.proofs.Cards.{add_here, add_part, card_add}
 use Rattle.matroid.proofs.Choosing.{chosen_independent, chosen_largest, chosen_spans, chosen_within, dominating_chosen, left_dominated}
 use Rattle.matroid.proofs.Runs.{kept_unstruck, offered_unstruck, shown_live, struck_live, struck_shown, unkept_struck}
@@ -20,13 +19,10 @@ use Rattle.matroid.proofs.Substitution.{choice_from_a_part}
 module _ (n : ℕ) (side : Side) (lawful : Lawful n side) (S U : Set) (S_fits : side.independent S ≡ true)
     (U_fits : side.independent U ≡ true) (no_larger : card n S ≤ card n U) (spanned : U ⊆ spans side S) where
   span_passes : (x : ℕ) → x < n → x ∈ spans side S → x ∈ spans side U
-  span_passes x low within = elim (cases_Bool (spans side U x)) [ inl yet ↦ yet | inr out ↦ absurd (joins out) ]
+  span_passes x low within = true_from_ne_false (spans side U x) joins
     where
       cannot_join : (y : ℕ) → y ∈ spans side S → y ∉ S → side.independent (add S y) ≡ true → ⊥
-      cannot_join y in_span out joined = elim (or_cases (S y) (not (side.independent (add S y))) in_span) [
-        | inl member ↦ both_ways (S y) out member
-        | inr unfit ↦ both_ways (side.independent (add S y)) (not-true (side.independent (add S y)) unfit) joined
-      ]
+      cannot_join y in_span out joined = grind arith
 
       joins : x ∉ spans side U → ⊥
       joins out =
@@ -47,35 +43,31 @@ same_span n side lawful live S U below S_live S_fits U_fits size spanned =
     there = span_passes n side lawful S U S_fits U_fits (omega arith) spanned
 
     back : (x : ℕ) → x < n → x ∈ spans side U → x ∈ spans side S
-    back = span_passes n side lawful U S U_fits S_fits (omega arith) (λ y member. there y (below y (S_live y member))
-        (or_left (S y) (not (side.independent (add S y))) member))
+    back = span_passes n side lawful U S U_fits S_fits (omega arith) (λ y member. there y (below y (S_live y member)) (grind arith))
 
     passes : (I J : Set) → ((x : ℕ) → x < n → x ∈ spans side I → x ∈ spans side J) → live ∩ spans side I ⊆ live ∩ spans side J
-    passes I J pass x h =
-        let both = and_parts (live x) (spans side I x) h in
-        and_from (live x) (spans side J x) both.0 (pass x (below x both.0) both.1)
+    passes I J pass x h = grind (arith, pass x, below x)
 
 module _ (n : ℕ) (one two : Side) (lawful_one : Lawful n one) (lawful_two : Lawful n two)
     (live : Set) (below : Below n live) where
   open_below : (struck : Set) → Below n (live ∖ struck)
   open_below struck x h = below x (outside_parts live struck x h).0
 
-  module _ (K : Set) (kernel : Kernel one two live K) where
+  module _ {K : Set} (kernel : Kernel one two live K) where
     -- no member of the kernel is struck, and what is struck the kernel dominates on side two
     record Unharmed (struck : Set) : Type 0 where
       unstruck : (x : ℕ) → x ∈ struck → x ∉ K
       beaten : struck ⊆ dominates two K
 
-    module _ (struck offered struck' : Set) (struck_part : struck ⊆ live)
+    module _ {struck offered struck' : Set} (struck_part : struck ⊆ live)
         (turn : Turn one two live struck offered struck') (unharmed : Unharmed struck) where
       kernel_open : K ⊆ live ∖ struck
-      kernel_open x member = outside_from live struck x (kernel.within x member) (elim (cases_Bool (struck x))
-          [ inl lost ↦ absurd (both_ways (K x) (unharmed.unstruck x lost) member) | inr out ↦ out ])
+      kernel_open x member = grind (arith, kernel.within x, unharmed.unstruck x)
 
       -- side one offered f although it could offer K, so K does not dominate f there
       offered_beaten : (f : ℕ) → f ∈ offered → f ∉ K → f ∈ dominates two K
       offered_beaten f offer out =
-          let (is_live, yet) = outside_parts live struck f (offered_unstruck one two live struck offered struck' turn f offer) in
+          let (is_live, yet) = outside_parts live struck f (offered_unstruck turn f offer) in
           elim (or_cases (dominates one K f) (dominates two K f) (kernel.dominating f (outside_from live K f is_live out))) [
             | inl first ↦ absurd (both_ways (K f) out (choice_from_a_part n one lawful_one (add K f) (live ∖ struck) K offered
                 (add_part K (live ∖ struck) f kernel_open (outside_from live struck f is_live yet)) (open_below struck)
@@ -91,137 +83,97 @@ module _ (n : ℕ) (one two : Side) (lawful_one : Lawful n one) (lawful_two : La
               [ inl member ↦ absurd (both_ways (K x) other member) | inr same ↦ rw (eqb-true x f same) first ]
 
       shown_beaten : (x : ℕ) → x ∈ struck ∪ offered → x ∉ K → x ∈ dominates two K
-      shown_beaten x shown out = elim (or_cases (struck x) (offered x) shown)
-          [ inl lost ↦ unharmed.beaten x lost | inr offer ↦ offered_beaten x offer out ]
+      shown_beaten x shown out = grind (arith, unharmed.beaten x, offered_beaten x)
 
       -- of all that it was ever shown and the kernel, side two would keep the kernel
       kernel_kept : Choice two ((struck ∪ offered) ∪ K) K
       kernel_kept = dominating_chosen n two lawful_two ((struck ∪ offered) ∪ K) K
-          (λ x h. or_right ((struck ∪ offered) x) (K x) h) kernel.independent_two
-          (λ x h.
-          let (within, out) = outside_parts ((struck ∪ offered) ∪ K) K x h in
-          elim (or_cases ((struck ∪ offered) x) (K x) within)
-          [ inl shown ↦ shown_beaten x shown out | inr member ↦ absurd (both_ways (K x) out member) ])
+          (λ x h. or_right ((struck ∪ offered) x) (K x) h) kernel.independent_two (λ x h. grind (arith, shown_beaten x))
 
       all_below : Below n ((struck ∪ offered) ∪ K)
-      all_below x h = elim (or_cases ((struck ∪ offered) x) (K x) h) [
-        | inl shown ↦ below x (shown_live one two live struck offered struck' turn struck_part x shown)
-        | inr member ↦ below x (kernel.within x member)
-      ]
+      all_below x h = grind (arith, below x, shown_live turn struck_part x, kernel.within x)
 
       unharmed_after : Unharmed struck'
       unharmed_after = record {
         unstruck = spared;
-        beaten = λ x lost.
-            shown_beaten x (struck_shown one two live struck offered struck' turn x lost).0 (spared x lost);
+        beaten = λ x lost. shown_beaten x (struck_shown turn x lost).0 (spared x lost);
       }
         where
           spared : (x : ℕ) → x ∈ struck' → x ∉ K
           spared x lost =
-              let (shown, left) = struck_shown one two live struck offered struck' turn x lost in
-              elim (cases_Bool (K x)) [
-                | inl member ↦ absurd (both_ways (turn.kept x) left (choice_from_a_part n two lawful_two (struck ∪ offered)
-                    ((struck ∪ offered) ∪ K) turn.kept K (λ y h. or_left ((struck ∪ offered) y) (K y) h) all_below
-                    turn.keeps kernel_kept x shown member))
-                | inr out ↦ out
-              ]
+              let (shown, left) = struck_shown turn x lost in
+              false_from_ne_true (K x) (λ member. both_ways (turn.kept x) left (choice_from_a_part n two lawful_two
+              (struck ∪ offered) ((struck ∪ offered) ∪ K) turn.kept K (λ y h. or_left ((struck ∪ offered) y) (K y) h)
+              all_below turn.keeps kernel_kept x shown member))
 
     never_struck : {turns : ℕ} {struck : Set} → Run one two live turns struck → Unharmed struck
-    never_struck start = record
-        { unstruck = λ x h. absurd (both_ways (∅ x) refl h); beaten = λ x h. absurd (both_ways (∅ x) refl h) }
-    never_struck (next {struck} {struck'} offered run turn new) =
-        unharmed_after struck offered struck' (struck_live n one two lawful_one lawful_two live below run) turn (never_struck run)
+    never_struck start = record { unstruck = λ x h. absurd (false≢true h); beaten = λ x h. absurd (false≢true h) }
+    never_struck (next offered run turn new) = unharmed_after (struck_live run) turn (never_struck run)
 
   module _ (turns : ℕ) (list : Set) (ends : Ends one two live turns list) where
     struck_part : ends.struck ⊆ live
-    struck_part = struck_live n one two lawful_one lawful_two live below ends.run
+    struck_part = struck_live ends.run
 
     -- in the last turn side two kept what side one offered, and nothing else
     kept_all : ends.last.kept ≡ list
     kept_all = same_set ends.last.kept list there back
       where
         there : ends.last.kept ⊆ list
-        there x kept = elim (or_cases (ends.struck x) (list x) (chosen_within two (ends.struck ∪ list) ends.last.kept ends.last.keeps x kept)) [
-          | inl lost ↦ absurd (both_ways (ends.struck x) (kept_unstruck one two live ends.struck list ends.struck ends.last x kept) lost)
-          | inr offer ↦ offer
-        ]
+        there x kept =
+            grind (arith, chosen_within two (ends.struck ∪ list) ends.last.kept ends.last.keeps x, kept_unstruck ends.last x)
 
         back : list ⊆ ends.last.kept
-        back x offer = elim (cases_Bool (ends.last.kept x)) [
-          | inl kept ↦ kept
-          | inr left ↦ absurd (both_ways (ends.struck x)
-              (outside_parts live ends.struck x (offered_unstruck one two live ends.struck list ends.struck ends.last x offer)).1
-              (unkept_struck one two live ends.struck list ends.struck ends.last x (or_right (ends.struck x) (list x) offer) left))
-        ]
+        back x offer = grind (arith, offered_unstruck ends.last x, unkept_struck ends.last x)
 
     list_kept : Choice two (ends.struck ∪ list) list
     list_kept = let from : Set → Type 0 = λ Q. Choice two (ends.struck ∪ list) Q in subst from kept_all ends.last.keeps
 
-    list_kernel : Kernel one two live list
-    list_kernel = record {
-      within = λ x h. (outside_parts live ends.struck x
-          (offered_unstruck one two live ends.struck list ends.struck ends.last x h)).0;
+    pub list_is_a_kernel : Kernel one two live list
+    list_is_a_kernel = record {
+      within = λ x h. (outside_parts live ends.struck x (offered_unstruck ends.last x h)).0;
       independent_one = chosen_independent n one lawful_one (live ∖ ends.struck) list (open_below ends.struck) ends.last.offers;
       independent_two = chosen_independent n two lawful_two (ends.struck ∪ list) list
-          (λ x h. below x (shown_live one two live ends.struck list ends.struck ends.last struck_part x h)) list_kept;
-      dominating = λ x h.
-          let (is_live, out) = outside_parts live list x h in
-          elim (cases_Bool (ends.struck x)) [
-            | inl lost ↦ or_right (dominates one list x) (dominates two list x)
-                (left_dominated two (ends.struck ∪ list) list list_kept x (or_left (ends.struck x) (list x) lost) out)
-            | inr yet ↦ or_left (dominates one list x) (dominates two list x)
-                (left_dominated one (live ∖ ends.struck) list ends.last.offers x (outside_from live ends.struck x is_live yet) out)
-          ];
+          (λ x h. below x (shown_live ends.last struck_part x h)) list_kept;
+      dominating = λ x h. grind (
+        arith,
+        left_dominated two (ends.struck ∪ list) list list_kept x,
+        left_dominated one (live ∖ ends.struck) list ends.last.offers x,
+      );
     }
 
     module _ (K : Set) (kernel : Kernel one two live K) where
-      unharmed : Unharmed K kernel ends.struck
-      unharmed = never_struck K kernel ends.run
+      unharmed : Unharmed kernel ends.struck
+      unharmed = never_struck kernel ends.run
 
       all_open : K ⊆ live ∖ ends.struck
-      all_open = kernel_open K kernel ends.struck list ends.struck struck_part ends.last unharmed
+      all_open = kernel_open kernel struck_part ends.last unharmed
 
-      list_best : K ⊆ list ∪ dominates one list
-      list_best x member = elim (cases_Bool (list x)) [
-        | inl offer ↦ or_left (list x) (dominates one list x) offer
-        | inr out ↦ or_right (list x) (dominates one list x)
-            (left_dominated one (live ∖ ends.struck) list ends.last.offers x (all_open x member) out)
-      ]
+      pub list_is_best : K ⊆ list ∪ dominates one list
+      list_is_best x member =
+          grind (arith, all_open x, left_dominated one (live ∖ ends.struck) list ends.last.offers x)
 
       both_kept : Choice two ((ends.struck ∪ list) ∪ K) K
-      both_kept = kernel_kept K kernel ends.struck list ends.struck struck_part ends.last unharmed
+      both_kept = kernel_kept kernel struck_part ends.last unharmed
 
       list_shown : list ⊆ (ends.struck ∪ list) ∪ K
-      list_shown x offer = or_left ((ends.struck ∪ list) x) (K x) (or_right (ends.struck x) (list x) offer)
+      list_shown x offer = grind arith
 
       all_shown : Below n ((ends.struck ∪ list) ∪ K)
-      all_shown = all_below K kernel ends.struck list ends.struck struck_part ends.last unharmed
+      all_shown = all_below kernel struck_part ends.last unharmed
 
       size : card n list ≡ card n K
       size = le_antisymm
-          (chosen_largest n two lawful_two ((ends.struck ∪ list) ∪ K) K all_shown both_kept list list_shown list_kernel.independent_two)
+          (chosen_largest n two lawful_two ((ends.struck ∪ list) ∪ K) K all_shown both_kept list list_shown list_is_a_kernel.independent_two)
           (chosen_largest n one lawful_one (live ∖ ends.struck) list (open_below ends.struck) ends.last.offers K all_open
           kernel.independent_one)
 
-      kernels_alike : Alike n one two live K list
-      kernels_alike = record {
+      pub every_kernel_is_alike : Alike n one two live K list
+      every_kernel_is_alike = record {
         size = sym size;
-        span_one = sym (same_span n one lawful_one live list K below list_kernel.within list_kernel.independent_one
+        span_one = sym (same_span n one lawful_one live list K below list_is_a_kernel.within list_is_a_kernel.independent_one
             kernel.independent_one size (λ x member. chosen_spans n one lawful_one (live ∖ ends.struck) list
             (open_below ends.struck) ends.last.offers x (all_open x member)));
         span_two = same_span n two lawful_two live K list below kernel.within kernel.independent_two
-            list_kernel.independent_two (sym size) (λ x offer. chosen_spans n two lawful_two ((ends.struck ∪ list) ∪ K) K
+            list_is_a_kernel.independent_two (sym size) (λ x offer. chosen_spans n two lawful_two ((ends.struck ∪ list) ∪ K) K
             all_shown both_kept x (list_shown x offer));
       }
-
-pub list_is_a_kernel : ListIsAKernel
-list_is_a_kernel n one two lawful_one lawful_two live below turns list ends =
-    list_kernel n one two lawful_one lawful_two live below turns list ends
-
-pub list_is_best : ListIsBest
-list_is_best n one two lawful_one lawful_two live below turns list ends K kernel =
-    list_best n one two lawful_one lawful_two live below turns list ends K kernel
-
-pub kernels_are_alike_lem : KernelsAreAlike
-kernels_are_alike_lem n one two lawful_one lawful_two live below turns list ends K kernel =
-    kernels_alike n one two lawful_one lawful_two live below turns list ends K kernel

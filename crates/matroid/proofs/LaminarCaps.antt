@@ -3,9 +3,10 @@
 -- 0: group k cuts the two sets in two, and in one of the parts the larger set still has more
 -- members. A member found there by the law from k + 1 on keeps the caps of the groups in that
 -- part, lies in none of the others, and keeps the cap of group k. Assumes nothing.
-use Rattle.std.proofs.Common.{◌≡◌, ℕ, zero, suc, ◌+◌, ◌<◌, ◌≤◌, Bool, true, false, not, ◌&&◌, eqb, leb, ◌⊎◌, sym, refl, ◌∙◌, inl, inr, le_trans, arith}
-use Rattle.std.proofs.lemmas.Bool.{and_parts, and_from, and_cases, and_left, or_cases, or_left, or_right, eqb-true, both_ways, cases_lt, cases_eq, le-leb, leb-true, not_from_true, not_from_false, not-true}
-use Rattle.matroid.specs.Sets.{Set, ◌∈◌, ◌∉◌, ◌⊆◌, ∅, ◌∩◌, ◌∖◌, add, card}
+use Rattle.std.proofs.Common.{◌≡◌, ℕ, zero, suc, ◌+◌, ◌<◌, ◌≤◌, true, not, leb, ◌⊎◌, inl, inr, le_trans, arith}
+use Rattle.std.proofs.lemmas.Bool.{and_parts, and_left, cases_lt, cases_eq, le-leb, leb-true, not-true}
+use Rattle.std.proofs.lemmas.Bool.Decides.{nat_tests}
+use Rattle.matroid.specs.Sets.{Set, ◌∈◌, ◌∉◌, ◌⊆◌, ∅, ◌∩◌, add, card}
 use Rattle.matroid.specs.Matroids.{Matroid}
 use Rattle.matroid.specs.Laminar.{Laminar, within_caps}
 use Rattle.matroid.proofs.Cards.{card_empty, card_mono, card_add, card_split, card_finds}
@@ -16,42 +17,19 @@ abbrev outside : Set → Set
 outside M x = not (M x)
 
 part_⊆ : (S P : Set) → S ∩ P ⊆ S
-part_⊆ S P y member = (and_parts (S y) (P y) member).0
+part_⊆ S P = grind arith
 
 -- a smaller set has a smaller part in G
 meet_⊆ : (S U G : Set) → S ⊆ U → S ∩ G ⊆ U ∩ G
-meet_⊆ S U G part y member =
-    let both = and_parts (S y) (G y) member in
-    and_from (U y) (G y) (part y both.0) both.1
+meet_⊆ S U G part = grind arith
 
 -- a new member outside G leaves the part in G as it is
 add_outside : (S G : Set) (x : ℕ) → x ∉ G → add S x ∩ G ⊆ S ∩ G
-add_outside S G x out y member =
-    let both = and_parts (add S x y) (G y) member in
-    and_from (S y) (G y)
-    (elim (or_cases (S y) (eqb y x) both.0)
-    [ inl old ↦ old | inr new ↦ absurd (both_ways (G y) (rw (eqb-true y x new) out) both.1) ])
-    both.1
+add_outside S G x out = grind (arith, nat_tests)
 
 -- within G, what is added to S may be added to the part of S in a set around G
 add_inside : (S P G : Set) (x : ℕ) → G ⊆ P → add S x ∩ G ⊆ add (S ∩ P) x ∩ G
-add_inside S P G x around y member =
-    let both = and_parts (add S x y) (G y) member in
-    and_from (add (S ∩ P) x y) (G y)
-    (elim (or_cases (S y) (eqb y x) both.0) [
-      | inl old ↦ or_left (S y && P y) (eqb y x) (and_from (S y) (P y) old (around y both.1))
-      | inr new ↦ or_right (S y && P y) (eqb y x) new
-    ])
-    both.1
-
--- of two tests that never both pass, the one fails where the other passes
-absent : (a b : Bool) → (a ≡ true → b ≡ false) → b ≡ true → a ≡ false
-absent true b apart here = sym here ∙ apart refl
-absent false b apart here = refl
-
--- what lies in b and not in both lies outside a
-outside_part : (a b : Bool) → (a && b) ≡ false → b ≡ true → a ≡ false
-outside_part a b out here = elim (and_cases a b out) [ inl none ↦ none | inr none ↦ absurd (both_ways b none here) ]
+add_inside S P G x around = grind (arith, nat_tests)
 
 module _ (n m : ℕ) (group : ℕ → Set) (caps : ℕ → ℕ) where
   -- every group from k on has at most its cap of members of S
@@ -85,20 +63,8 @@ module _ (n m : ℕ) (group : ℕ → Set) (caps : ℕ → ℕ) where
     | inl inner ↦ cap_part g (add S x ∩ group g) (add (S ∩ P) x ∩ group g)
         (add_inside S P (group g) x inner) (joined g from below)
     | inr apart ↦ cap_part g (add S x ∩ group g) (S ∩ group g)
-        (add_outside S (group g) x (absent (group g x) (P x) (apart x) here)) (within g from below)
+        (add_outside S (group g) x (grind (arith, apart x))) (within g from below)
   ]
-
-  -- where U has more members in P than S, some member of U in P can join S
-  exchange_in_part : (k : ℕ) (P : Set) → Divides k P → Exchange k
-      → (S U : Set) → Within k S → Within k U → card n (S ∩ P) < card n (U ∩ P)
-      → (x : ℕ) × (x ∈ P) × (x < n) × (x ∈ U) × (x ∉ S) × Within k (add S x)
-  exchange_in_part k P divides exchange S U withinS withinU more =
-      let partS = within_part k (S ∩ P) S (part_⊆ S P) withinS in
-      let partU = within_part k (U ∩ P) U (part_⊆ U P) withinU in
-      let (x, low, new, out, joined) = exchange (S ∩ P) (U ∩ P) partS partU more in
-      let both = and_parts (U x) (P x) new in
-      let out_s = outside_part (S x) (P x) out both.1 in
-      (x, both.1, low, both.0, out_s, join_part k P divides S x both.1 withinS joined)
 
   within_fewer : (k : ℕ) (S : Set) → Within k S → Within (suc k) S
   within_fewer k S within g from below = within g (omega arith) below
@@ -106,6 +72,25 @@ module _ (n m : ℕ) (group : ℕ → Set) (caps : ℕ → ℕ) where
   within_more : (k : ℕ) (S : Set) → Within (suc k) S → card n (S ∩ group k) ≤ caps k → Within k S
   within_more k S within here g from below = elim (cases_eq g k)
       [ inl e ↦ rw e here | inr ne ↦ within g (omega arith) below ]
+
+  -- Where U has more members in P than S, and each that is new in P keeps the cap of group k, some member
+  -- of U in P can join S.
+  exchange_in_part : (k : ℕ) (P : Set) → Divides (suc k) P → Exchange (suc k)
+      → (S U : Set) → Within k S → Within k U → card n (S ∩ P) < card n (U ∩ P)
+      → ((x : ℕ) → x < n → x ∈ P → x ∉ S → card n (add S x ∩ group k) ≤ caps k) → Joins k S U
+  exchange_in_part k P divides exchange S U withinS withinU more cap =
+      let fewer = within_fewer k S withinS in
+      let partS = within_part (suc k) (S ∩ P) S (part_⊆ S P) fewer in
+      let partU = within_part (suc k) (U ∩ P) U (part_⊆ U P) (within_fewer k U withinU) in
+      let (x, low, new, out, joined) = exchange (S ∩ P) (U ∩ P) partS partU more in
+      let (member, here) = and_parts (U x) (P x) new in
+      let out_s : x ∉ S = grind arith in (
+        x,
+        low,
+        member,
+        out_s,
+        within_more k (add S x) (join_part (suc k) P divides S x here fewer joined) (cap x low here out_s),
+      )
 
   -- a new member keeps the cap of a group in which a set that keeps it has more members
   cap_joined : (k : ℕ) (S U : Set) (x : ℕ) → x < n → x ∉ S → card n (S ∩ group k) < card n (U ∩ group k)
@@ -123,36 +108,20 @@ module _ (n m : ℕ) (group : ℕ → Set) (caps : ℕ → ℕ) where
 
     outside_divides : (k : ℕ) → Divides (suc k) (outside (group k))
     outside_divides k g from below = elim (laminar g k below from) [
-      | inl inner ↦ inr (λ x member. not_from_true (group k x) (inner x member))
-      | inr apart ↦ inl (λ x member. not_from_false (group k x) (apart x member))
+      | inl inner ↦ inr (λ x member. grind (arith, inner x))
+      | inr apart ↦ inl (λ x member. grind (arith, apart x))
     ]
-
-    -- U has more members in group k than S
-    exchange_inside : (k : ℕ) → k < m → Exchange (suc k) → (S U : Set) → Within k S → Within k U
-        → card n (S ∩ group k) < card n (U ∩ group k) → Joins k S U
-    exchange_inside k below exchange S U withinS withinU more =
-        let (x, here, low, member, out, joined) = exchange_in_part (suc k) (group k) (group_divides k) exchange
-        S U (within_fewer k S withinS) (within_fewer k U withinU) more in
-        let cap = cap_joined k S U x low out more (withinU k (omega arith) below) in
-        (x, low, member, out, within_more k (add S x) joined cap)
-
-    -- U has more members outside group k than S
-    exchange_outside : (k : ℕ) → k < m → Exchange (suc k) → (S U : Set) → Within k S → Within k U
-        → card n (S ∖ group k) < card n (U ∖ group k) → Joins k S U
-    exchange_outside k below exchange S U withinS withinU more =
-        let (x, here, low, member, out, joined) = exchange_in_part (suc k) (outside (group k)) (outside_divides k) exchange
-        S U (within_fewer k S withinS) (within_fewer k U withinU) more in
-        let same = add_outside S (group k) x (not-true (group k x) here) in
-        let cap = cap_part k (add S x ∩ group k) (S ∩ group k) same (withinS k (omega arith) below) in
-        (x, low, member, out, within_more k (add S x) joined cap)
 
     exchange_step : (k : ℕ) → k < m → Exchange (suc k) → Exchange k
     exchange_step k below exchange S U withinS withinU more =
         let splitS = card_split n S (group k) in
         let splitU = card_split n U (group k) in
         elim (cases_lt (card n (S ∩ group k)) (card n (U ∩ group k))) [
-          | inl inner ↦ exchange_inside k below exchange S U withinS withinU inner
-          | inr outer ↦ exchange_outside k below exchange S U withinS withinU (omega arith)
+          | inl inner ↦ exchange_in_part k (group k) (group_divides k) exchange S U withinS withinU inner
+              (λ x low here out. cap_joined k S U x low out inner (withinU k (omega arith) below))
+          | inr outer ↦ exchange_in_part k (outside (group k)) (outside_divides k) exchange S U withinS withinU (omega arith)
+              (λ x low here out. cap_part k (add S x ∩ group k) (S ∩ group k)
+              (add_outside S (group k) x (not-true (group k x) here)) (withinS k (omega arith) below))
         ]
 
     -- d groups are left from k on

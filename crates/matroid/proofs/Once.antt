@@ -1,21 +1,20 @@
 -- Deferred acceptance has one outcome: a turn has one, since a side has one choice, and turns that each
 -- changed the struck set lead to one end. Assumes nothing.
 use Rattle.std.proofs.Common.{◌≡◌, ℕ, ◌<◌, sym, refl, ◌∙◌, subst, ap₂, inl, inr, arith}
-use Rattle.std.proofs.lemmas.Bool.{cases_eq, cases_lt}
+use Rattle.std.proofs.lemmas.Bool.{cases_eq, cases_order}
 use Rattle.matroid.specs.Sets.{Set, ◌⊆◌, ◌∪◌, ◌∖◌, Below}
 use Rattle.matroid.specs.Matroids.{Side, Lawful}
 use Rattle.matroid.specs.Choices.{Choice}
 use Rattle.matroid.specs.Turns.{Turn, Run, start, next, Ends}
-use Rattle.matroid.specs.Theorems.{EndsOnce}
 use Rattle.matroid.proofs.Runs.{shown_live, struck_live}
 use Rattle.matroid.proofs.Sets.{outside_parts}
 use Rattle.matroid.proofs.Substitution.{choice_once}
 
 module _ (n : ℕ) (one two : Side) (lawful_one : Lawful n one) (lawful_two : Lawful n two)
     (live : Set) (below : Below n live) where
-  turn_once : (struck offered struck' offered₂ struck'' : Set) → struck ⊆ live → Turn one two live struck offered struck'
+  turn_once : {struck offered struck' offered₂ struck'' : Set} → struck ⊆ live → Turn one two live struck offered struck'
       → Turn one two live struck offered₂ struck'' → (offered ≡ offered₂) × (struck' ≡ struck'')
-  turn_once struck offered struck' offered₂ struck'' part turn turn₂ =
+  turn_once {struck} {offered} {struck'} {offered₂} part turn turn₂ =
       (same, turn.strikes ∙ ap₂ (λ (P Q : Set). (struck ∪ P) ∖ Q) same kept ∙ sym turn₂.strikes)
     where
       same : offered ≡ offered₂
@@ -27,17 +26,16 @@ module _ (n : ℕ) (one two : Side) (lawful_one : Lawful n one) (lawful_two : La
 
       kept : turn.kept ≡ turn₂.kept
       kept = choice_once n two lawful_two (struck ∪ offered) turn.kept turn₂.kept
-          (λ x h. below x (shown_live one two live struck offered struck' turn part x h))
+          (λ x h. below x (shown_live turn part x h))
           turn.keeps (subst FromKept (sym same) turn₂.keeps)
 
   run_once : {t u : ℕ} {S U : Set} → Run one two live t S → Run one two live u U → t ≡ u → S ≡ U
   run_once start start same = refl
   run_once start (next offered run turn new) same = absurd (omega arith)
   run_once (next offered run turn new) start same = absurd (omega arith)
-  run_once (next {struck = S} {struck' = S'} offered run turn new) (next {struck = U} {struck' = U'} offered₂ run₂ turn₂ new₂) same =
+  run_once (next offered run turn new) (next {struck' = U'} offered₂ run₂ turn₂ new₂) same =
       let from : Set → Type 0 = λ R. Turn one two live R offered₂ U' in
-      (turn_once S offered S' offered₂ U' (struck_live n one two lawful_one lawful_two live below run) turn
-      (subst from (sym (run_once run run₂ (omega arith))) turn₂)).1
+      (turn_once (struck_live run) turn (subst from (sym (run_once run run₂ (omega arith))) turn₂)).1
 
   -- a turn of a run that is not its end
   record Step (k : ℕ) : Type 0 where
@@ -63,25 +61,21 @@ module _ (n : ℕ) (one two : Side) (lawful_one : Lawful n one) (lawful_two : La
       let step = step_at run ends.before l in
       let same : step.from ≡ ends.struck = run_once step.before ends.run refl in
       let from : Set → Type 0 = λ R. Turn one two live R step.offers step.to in
-      step.changed ((turn_once ends.struck step.offers step.to list ends.struck
-      (struck_live n one two lawful_one lawful_two live below ends.run) (subst from same step.made) ends.last).1 ∙ sym same)
+      step.changed ((turn_once (struck_live ends.run) (subst from same step.made) ends.last).1 ∙ sym same)
 
-pub ends_once : EndsOnce
-ends_once n one two lawful_one lawful_two live below t u list other a b = (
-  omega (arith, a.count, b.count, count),
-  (turn_once n one two lawful_one lawful_two live below a.struck list a.struck other b.struck
-      (struck_live n one two lawful_one lawful_two live below a.run) a.last
-      (subst from (sym (run_once n one two lawful_one lawful_two live below a.run b.run count)) b.last)).0,
-)
-  where
-    from : Set → Type 0
-    from R = Turn one two live R other b.struck
+  pub ends_once : (t u : ℕ) (list other : Set) → Ends one two live t list → Ends one two live u other
+      → (t ≡ u) × (list ≡ other)
+  ends_once t u list other a b = (
+    omega (arith, a.count, b.count, count),
+    (turn_once (struck_live a.run) a.last (subst from (sym (run_once a.run b.run count)) b.last)).0,
+  )
+    where
+      from : Set → Type 0
+      from R = Turn one two live R other b.struck
 
-    count : a.before ≡ b.before
-    count = elim (cases_lt a.before b.before) [
-      | inl l ↦ absurd (not_past n one two lawful_one lawful_two live below b.run t list a l)
-      | inr ge ↦ elim (cases_lt b.before a.before) [
-        | inl l ↦ absurd (not_past n one two lawful_one lawful_two live below a.run u other b l)
-        | inr le ↦ omega arith
+      count : a.before ≡ b.before
+      count = elim (cases_order a.before b.before) [
+        | inl same ↦ same
+        | inr (inl less) ↦ absurd (not_past b.run t list a less)
+        | inr (inr more) ↦ absurd (not_past a.run u other b more)
       ]
-    ]

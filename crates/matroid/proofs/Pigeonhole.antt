@@ -1,22 +1,20 @@
 -- The pigeonhole law: where different members of S are sent to different members of U, S has no
 -- more members than U. And what a set is without one number, `U ∖ eqb p`. Assumes nothing.
-use Rattle.std.proofs.Common.{◌≡◌, ℕ, zero, suc, ◌<◌, ◌≤◌, not, eqb, refl, inl, inr, arith}
-use Rattle.std.proofs.lemmas.Bool.{and_from, and_parts, and_right, cases_Bool, eq-eqb, eqb-false, ne_eqb, not_from_false, not_from_true, not-true}
+use Rattle.std.proofs.Common.{◌≡◌, ℕ, zero, suc, ◌<◌, ◌≤◌, eqb, inl, inr, arith}
+use Rattle.std.proofs.lemmas.Bool.{cases_Bool}
+use Rattle.std.proofs.lemmas.Bool.Decides.{nat_tests}
 use Rattle.matroid.specs.Sets.{Set, ◌∈◌, ◌∉◌, ◌∖◌, card}
 use Rattle.matroid.proofs.Cards.{card_less}
 
 -- U without the number p lacks p, and has every other member of U
 pub without_here : (U : Set) (p : ℕ) → p ∉ U ∖ eqb p
-without_here U p = and_right (U p) (not (eqb p p)) (not_from_true (eqb p p) (eq-eqb p p refl))
+without_here U p = grind (arith, nat_tests)
 
 pub without_other : (U : Set) (p q : ℕ) → q ∈ U → (p ≡ q → ⊥) → q ∈ U ∖ eqb p
-without_other U p q member other =
-    and_from (U q) (not (eqb p q)) member (not_from_false (eqb p q) (ne_eqb p q other))
+without_other U p q member other = grind (arith, nat_tests)
 
 pub without_parts : (U : Set) (p q : ℕ) → q ∈ U ∖ eqb p → (q ∈ U) × (p ≡ q → ⊥)
-without_parts U p q member =
-    let both = and_parts (U q) (not (eqb p q)) member in
-    (both.0, eqb-false p q (not-true (eqb p q) both.1))
+without_parts U p q member = grind (arith, nat_tests)
 
 pub card_without : (n : ℕ) (U : Set) (p : ℕ) → p < n → p ∈ U → card n (U ∖ eqb p) < card n U
 card_without n U p low member =

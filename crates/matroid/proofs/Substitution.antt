@@ -2,8 +2,9 @@
 -- members of a choice that precede a number are as many as any independent set of earlier members
 -- has, and an independent set grows to the size of any other by members of that other. So a side has
 -- one choice from a set. Assumes nothing.
-use Rattle.std.proofs.Common.{◌≡◌, ℕ, zero, suc, ◌+◌, ◌<◌, ◌≤◌, Bool, true, eqb, inl, inr, arith}
-use Rattle.std.proofs.lemmas.Bool.{and_from, and_parts, and_right, or_cases, or_left, or_right, both_ways, cases_Bool, cases_lt, eqb-true}
+use Rattle.std.proofs.Common.{◌≡◌, ℕ, zero, suc, ◌+◌, ◌<◌, ◌≤◌, Bool, true, inl, inr, arith}
+use Rattle.std.proofs.lemmas.Bool.{and_from, and_right, or_left, both_ways, cases_lt, true_from_ne_false}
+use Rattle.std.proofs.lemmas.Bool.Decides.{nat_tests}
 use Rattle.matroid.specs.Sets.{Set, ◌∈◌, ◌∉◌, ◌⊆◌, ◌∪◌, add, Below, card}
 use Rattle.matroid.specs.Matroids.{Matroid, Side, Lawful}
 use Rattle.matroid.specs.Choices.{preceding, Choice}
@@ -25,11 +26,15 @@ module _ (n : ℕ) (side : Side) (lawful : Lawful n side) where
       ]
     where
       shorter : (x : ℕ) → x ∈ J → preceding side K x ⊆ preceding side K e
-      shorter x within y h =
-          let chosen : y ∈ K = (and_parts (K y) (side.precedes y x) h).0 in
-          and_from (K y) (side.precedes y e) chosen
-          (lawful.order.transitive y x e (below y (chosen_within side A K choice y chosen)) (below x (part x within)) e_below
-          (and_parts (K y) (side.precedes y x) h).1 (precede x within))
+      shorter x within y h = grind (
+        arith,
+        lawful.order.transitive y x e,
+        below y,
+        chosen_within side A K choice y,
+        below x,
+        part x,
+        precede x,
+      )
 
       joins : (x : ℕ) × (x < n) × (x ∈ J) × (x ∉ preceding side K e)
           × (side.independent (add (preceding side K e) x) ≡ true) → ⊥
@@ -55,11 +60,8 @@ module _ (n : ℕ) (independent : Set → Bool) (matroid : Matroid n independent
   augmented_from_more : (S : Set) (x : ℕ) → x ∈ U → Augmented n independent (add S x) U → Augmented n independent S U
   augmented_from_more S x joins more = record {
     set = more.set;
-    extends = λ y h. more.extends y (or_left (S y) (eqb y x) h);
-    within = λ y h. elim (or_cases (add S x y) (U y) (more.within y h)) [
-      | inl old ↦ add_part S (S ∪ U) x (λ z k. or_left (S z) (U z) k) (or_right (S x) (U x) joins) y old
-      | inr new ↦ or_right (S y) (U y) new
-    ];
+    extends = λ y h. grind (arith, more.extends y);
+    within = λ y h. grind (arith, nat_tests, more.within y);
     fits = more.fits;
     large = more.large;
   }
@@ -82,7 +84,7 @@ Grown n side K M e = Augmented n side.independent (preceding side K e) (add (pre
 -- than the choice from B has there.
 pub choice_from_a_part : ChoiceFromAPart
 choice_from_a_part n side lawful A B K M part below from_A from_B e e_within e_chosen =
-    elim (cases_Bool (K e)) [ inl chosen ↦ chosen | inr left ↦ absurd (too_many left grown) ]
+    true_from_ne_false (K e) (λ left. too_many left grown)
   where
     below_A : Below n A
     below_A x h = below x (part x h)
@@ -98,19 +100,17 @@ choice_from_a_part n side lawful A B K M part below from_A from_B e e_within e_c
         (add_part (preceding side K e) G.set e G.extends within) G.fits))
 
     before_e : (S : Set) → S ⊆ B → (y : ℕ) → y ∈ preceding side S e → (y ∈ B) × (side.precedes y e ≡ true)
-    before_e S inside y h =
-        let both : (S y ≡ true) × (side.precedes y e ≡ true) = and_parts (S y) (side.precedes y e) h in
-        (inside y both.0, both.1)
+    before_e S inside y h = grind (arith, inside y)
 
     all_before_e : e ∉ K → (G : Grown n side K M e) → (y : ℕ) → y ∈ G.set → (y ∈ B) × (side.precedes y e ≡ true)
-    all_before_e left G y within =
-        elim (or_cases (preceding side K e y) (add (preceding side M e) e y) (G.within y within)) [
-          | inl old ↦ before_e K (λ x h. part x (chosen_within side A K from_A x h)) y old
-          | inr new ↦ elim (or_cases (preceding side M e y) (eqb y e) new) [
-            | inl earlier ↦ before_e M (chosen_within side B M from_B) y earlier
-            | inr same ↦ absurd (without_e left G (rw (eqb-true y e same) at within))
-          ]
-        ]
+    all_before_e left G y within = grind (
+      arith,
+      nat_tests,
+      G.within y,
+      without_e left G,
+      before_e K (λ x h. part x (chosen_within side A K from_A x h)) y,
+      before_e M (chosen_within side B M from_B) y,
+    )
 
     too_many : e ∉ K → Grown n side K M e → ⊥
     too_many left G =

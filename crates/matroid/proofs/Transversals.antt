@@ -3,24 +3,30 @@
 -- member t of U has a place under u that no member of S has under s. If t is not in S, then it joins
 -- S with that place. If it is, then it moves to that place, so that s and u differ at one member of
 -- S less, and the same is done again. Assumes nothing.
-use Rattle.std.proofs.Common.{◌≡◌, ℕ, zero, suc, ◌<◌, ◌≤◌, Bool, true, false, not, ◌&&◌, eqb, sym, refl, ◌∙◌, inl, inr, arith}
-use Rattle.std.proofs.lemmas.Bool.{and_from, and_parts, and_right, both_ways, cases_Bool, eq-eqb, eqb-false, eqb-true, ne_eqb, not_from_false, not_from_true, not-true}
-use Rattle.matroid.specs.Sets.{Set, ◌∈◌, ◌∉◌, ◌⊆◌, ∅, add, card}
+use Rattle.std.proofs.Common.{◌≡◌, ℕ, zero, suc, ◌<◌, ◌≤◌, Bool, true, false, ◌&&◌, eqb, sym, ◌∙◌, inl, inr, arith}
+use Rattle.std.proofs.lemmas.Bool.{and_parts, both_ways, cases_Bool, eqb-false, eqb-true, false≢true, ne_eqb, true_from_ne_false}
+use Rattle.std.proofs.lemmas.Bool.Decides.{nat_tests}
+use Rattle.matroid.specs.Sets.{Set, ◌∈◌, ◌∉◌, ◌⊆◌, ∅, ◌∖◌, add, card}
 use Rattle.matroid.specs.Matroids.{Matroid}
 use Rattle.matroid.specs.Assignments.{Assignment, assignable}
 use Rattle.matroid.specs.Tests.{some}
 use Rattle.matroid.proofs.Cards.{add_other, card_less}
 use Rattle.matroid.proofs.Every.{latest, latest_passes, some_at, some_from}
 use Rattle.matroid.proofs.Pigeonhole.{card_inject}
+use Rattle.matroid.proofs.Sets.{outside_from, outside_parts}
 use Rattle.matroid.proofs.Assignments.{assignable_by_assignment, assigned_part, assigned_put, put, put_here, put_other}
 
 -- x is a member of S at the place p
 abbrev holds : Set → (ℕ → ℕ) → ℕ → Set
 holds S s p x = S x && eqb (s x) p
 
+-- the numbers that have one place under both
+abbrev alike : (s u : ℕ → ℕ) → Set
+alike s u x = eqb (s x) (u x)
+
 -- the members of S that have another place under s than under u
 abbrev moved : Set → (s u : ℕ → ℕ) → Set
-moved S s u x = S x && not (eqb (s x) (u x))
+moved S s u = S ∖ alike s u
 
 module _ (n m : ℕ) (allowed : ℕ → ℕ → Bool) (S U : Set) (u : ℕ → ℕ)
     (u_assigned : Assignment n m allowed U u) (more : card n S < card n U) where
@@ -50,44 +56,36 @@ module _ (n m : ℕ) (allowed : ℕ → ℕ → Bool) (S U : Set) (u : ℕ → �
 
   -- some member of U has a place that no member of S has
   vacancy : (s : ℕ → ℕ) → (t : ℕ) × (t < n) × (t ∈ U) × Vacant s (u t)
-  vacancy s = elim (cases_Bool (some n unheld)) [
+  vacancy s = elim (cases_Bool (some n (U ∖ held))) [
     | inl passes ↦
-        let (t, low, both) = some_at n unheld passes in
-        let (member, none) = and_parts (U t) (not (held t)) both in
-        (t, low, member, vacant t (not-true (held t) none))
-    | inr fails ↦ absurd (all_held s (λ t low member. some_at n (holds S s (u t)) (elim (cases_Bool (held t)) [
-      | inl here ↦ here
-      | inr none ↦ absurd (both_ways (some n unheld) fails
-          (some_from n unheld t low (and_from (U t) (not (held t)) member (not_from_false (held t) none))))
-    ])))
+        let (t, low, both) = some_at n (U ∖ held) passes in
+        let (member, none) = outside_parts U held t both in
+        (t, low, member, vacant t none)
+    | inr fails ↦ absurd (all_held s (λ t low member. some_at n (holds S s (u t)) (true_from_ne_false (held t)
+        (λ none. both_ways (some n (U ∖ held)) fails (some_from n (U ∖ held) t low (outside_from U held t member none))))))
   ]
     where
       held : Set
       held t = some n (holds S s (u t))
 
-      unheld : Set
-      unheld t = U t && not (held t)
-
       vacant : (t : ℕ) → held t ≡ false → Vacant s (u t)
-      vacant t none x low member same = both_ways (held t) none
-          (some_from n (holds S s (u t)) x low (and_from (S x) (eqb (s x) (u t)) member (eq-eqb (s x) (u t) same)))
+      vacant t none x low member same = grind (arith, nat_tests, some_from n (holds S s (u t)) x low)
 
   -- when t moves from another place to its place under u, fewer members have another place than under u
   fewer_moved : (s : ℕ → ℕ) (t : ℕ) → t < n → t ∈ S → (s t ≡ u t → ⊥)
       → card n (moved S (put s t (u t)) u) < card n (moved S s u)
   fewer_moved s t low member away = card_less n (moved S s' u) (moved S s u) part t low
-      (and_from (S t) (not (eqb (s t) (u t))) member (not_from_false (eqb (s t) (u t)) (ne_eqb (s t) (u t) away)))
-      (and_right (S t) (not (eqb (s' t) (u t))) (not_from_true (eqb (s' t) (u t)) (eq-eqb (s' t) (u t) (put_here s t (u t)))))
+      (outside_from S (alike s u) t member (ne_eqb (s t) (u t) away))
+      (grind (arith, nat_tests, put_here s t (u t)))
     where
       s' : ℕ → ℕ
       s' = put s t (u t)
 
       part : moved S s' u ⊆ moved S s u
       part x h =
-          let (within, differs) = and_parts (S x) (not (eqb (s' x) (u x))) h in
-          let unlike = eqb-false (s' x) (u x) (not-true (eqb (s' x) (u x)) differs) in
-          let same = put_other s t (u t) x (λ e. unlike (rw e (put_here s t (u t)))) in
-          and_from (S x) (not (eqb (s x) (u x))) within (rw same at differs)
+          let (within, differs) = outside_parts S (alike s' u) x h in
+          let same = put_other s t (u t) x (λ e. eqb-false (s' x) (u x) differs (rw e (put_here s t (u t)))) in
+          outside_from S (alike s u) x within (rw same at differs)
 
   -- some member of U outside S joins S with a place
   abbrev Joins : Type 0
@@ -132,9 +130,9 @@ module _ (n m : ℕ) (allowed : ℕ → ℕ → Bool) where
   placed_empty = (
     λ _. 0,
     record {
-      within = λ x h member. absurd (both_ways (∅ x) refl member);
-      allows = λ x h member. absurd (both_ways (∅ x) refl member);
-      different = λ x y hx hy member. absurd (both_ways (∅ x) refl member);
+      within = λ x h member. absurd (false≢true member);
+      allows = λ x h member. absurd (false≢true member);
+      different = λ x y hx hy member. absurd (false≢true member);
     },
   )
 

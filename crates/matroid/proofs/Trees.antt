@@ -1,14 +1,14 @@
 -- The tree of groups: what lies inside what, by the way up from a group to the root, and that the
 -- groups of a tree make a laminar family. Assumes nothing.
 use Rattle.std.proofs.Common.{◌≡◌, ℕ, zero, suc, ◌<◌, ◌≤◌, Bool, true, false, ◌&&◌, ◌||◌, eqb, ltb, ◌⊎◌, sym, refl, ap, ◌∙◌, inl, inr, arith}
-use Rattle.std.proofs.lemmas.Bool.{and_parts, and_from, and_left, or_cases, or_left, or_right, eqb-true, eq-eqb, ltb-true, lt-ltb, le-ltb, both_ways, cases_lt, cases_Bool}
+use Rattle.std.proofs.lemmas.Bool.{le-ltb, both_ways, cases_lt, cases_Bool, false_from_ne_true}
+use Rattle.std.proofs.lemmas.Bool.Decides.{nat_tests}
 use Rattle.matroid.specs.Laminar.{Laminar}
 use Rattle.matroid.specs.Trees.{climbs, inside, Rooted}
 
 -- a step that is not taken leaves the test at the start
 no_step : (a b c : Bool) → b ≡ false → (a || (b && c)) ≡ a
-no_step true b c none = refl
-no_step false b c none = and_left b c none
+no_step a b c none = grind arith
 
 module _ (parents : ℕ → ℕ) (rooted : Rooted parents) where
   -- two numbers of steps that lead up to the root tell the same
@@ -37,17 +37,13 @@ module _ (parents : ℕ → ℕ) (rooted : Rooted parents) where
 
   -- the two ways to lie inside g
   inside_cases : (h g : ℕ) → inside parents h g ≡ true → (h ≡ g) ⊎ ((0 < h) × (inside parents (parents h) g ≡ true))
-  inside_cases h g within = elim (or_cases (eqb h g) (ltb 0 h && inside parents (parents h) g) (sym (inside_step h g) ∙ within)) [
-    | inl same ↦ inl (eqb-true h g same)
-    | inr up ↦ let both = and_parts (ltb 0 h) (inside parents (parents h) g) up in inr (ltb-true 0 h both.0, both.1)
-  ]
+  inside_cases h g within = grind (arith, nat_tests, inside_step h g)
 
   pub inside_self : (h : ℕ) → inside parents h h ≡ true
-  inside_self h = inside_step h h ∙ or_left (eqb h h) (ltb 0 h && inside parents (parents h) h) (eq-eqb h h refl)
+  inside_self h = grind (arith, nat_tests, inside_step h h)
 
   inside_up : (h g : ℕ) → 0 < h → inside parents (parents h) g ≡ true → inside parents h g ≡ true
-  inside_up h g l up = inside_step h g
-      ∙ or_right (eqb h g) (ltb 0 h && inside parents (parents h) g) (and_from (ltb 0 h) (inside parents (parents h) g) (lt-ltb 0 h l) up)
+  inside_up h g l up = grind (arith, nat_tests, inside_step h g)
 
   -- what holds of a group where it holds of its parent, up to a bound
   up_to : (P : ℕ → Type 0) → ((h : ℕ) → (0 < h → P (parents h)) → P h) → (bound h : ℕ) → h ≤ bound → P h
@@ -90,8 +86,6 @@ module _ (parents : ℕ → ℕ) (rooted : Rooted parents) where
   pub tree_laminar : (m : ℕ) (homes : ℕ → ℕ) → Laminar m (λ g c. inside parents (homes c) g)
   tree_laminar m homes g k below less = elim (cases_Bool (inside parents g k)) [
     | inl inner ↦ inl (λ c member. inside_through (homes c) g k member inner)
-    | inr apart ↦ inr (λ c member. elim (cases_Bool (inside parents (homes c) k)) [
-      | inl also ↦ absurd (both_ways (inside parents g k) apart (inside_between (homes c) g k member also less))
-      | inr out ↦ out
-    ])
+    | inr apart ↦ inr (λ c member. false_from_ne_true (inside parents (homes c) k)
+        (λ also. both_ways (inside parents g k) apart (inside_between (homes c) g k member also less)))
   ]

@@ -1,7 +1,7 @@
 -- The independent sets of a matroid that have no more members than a cap are those of a matroid:
 -- the smaller of two such sets stays within the cap with one member more. Assumes nothing.
-use Rattle.std.proofs.Common.{◌≡◌, ℕ, ◌≤◌, Bool, true, leb, le_trans, arith}
-use Rattle.std.proofs.lemmas.Bool.{and_from, and_parts, le-leb, leb-true}
+use Rattle.std.proofs.Common.{◌≡◌, ℕ, ◌≤◌, Bool, true, le_trans, arith}
+use Rattle.std.proofs.lemmas.Bool.Decides.{nat_tests}
 use Rattle.matroid.specs.Sets.{Set, ∅, add, card}
 use Rattle.matroid.specs.Matroids.{Matroid}
 use Rattle.matroid.specs.Truncations.{truncated}
@@ -9,12 +9,10 @@ use Rattle.matroid.proofs.Cards.{card_add, card_empty, card_mono}
 
 module _ (n most : ℕ) (independent : Set → Bool) where
   truncated_from : (S : Set) → independent S ≡ true → card n S ≤ most → truncated n most independent S ≡ true
-  truncated_from S fits few = and_from (independent S) (leb (card n S) most) fits (le-leb (card n S) most few)
+  truncated_from S fits few = grind (arith, nat_tests)
 
   truncated_parts : (S : Set) → truncated n most independent S ≡ true → (independent S ≡ true) × (card n S ≤ most)
-  truncated_parts S kept =
-      let (fits, few) = and_parts (independent S) (leb (card n S) most) kept in
-      (fits, leb-true (card n S) most few)
+  truncated_parts S kept = grind (arith, nat_tests)
 
   pub truncation_matroid : Matroid n independent → Matroid n (truncated n most independent)
   truncation_matroid matroid = record {

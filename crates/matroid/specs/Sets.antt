@@ -1,5 +1,5 @@
 -- Sets of application numbers, and how many members a set has. Assumes nothing.
-use Rattle.std.specs.Prelude.{◌≡◌, ℕ, zero, suc, ◌+◌, ◌<◌, Bool, true, false, cond, not, ◌&&◌, ◌||◌, List, ◌==◌, slice_index_or}
+use Rattle.std.specs.Prelude.{◌≡◌, ℕ, zero, suc, ◌+◌, ◌<◌, Bool, true, false, cond, not, ◌&&◌, ◌||◌, ◌==◌}
 
 infixl 45 ◌∩◌
 infixl 40 ◌∪◌ ◌∖◌
@@ -41,7 +41,3 @@ Below n S = (x : ℕ) → x ∈ S → x < n
 unfoldable pub card : ℕ → Set → ℕ
 card zero S = 0
 card (suc n) S = card n S + cond (S n) 1 0
-
--- the set that a row of marks stands for: x is a member where the mark at place x is true
-abbrev pub members : List Bool → Set
-members marks x = slice_index_or marks x false

@@ -1,8 +1,9 @@
 // A round and its clearing, in plain words.
 use super::rounds::{Parts, Round};
 use clearing::deferred::clear;
-use clearing::side::Side;
-use parts::numbers::{APPLICATIONS, Application, GROUPS, Group};
+use itertools::Itertools;
+use parts::marks::Marks;
+use parts::numbers::{APPLICATIONS, Application, Group};
 use std::alloc::{AllocError, Global};
 
 // Clears the round and prints it.
@@ -12,15 +13,7 @@ pub(crate) fn show(rt: &HostRuntime, name: &str, round: &Round) -> anyhow::Resul
     println!(rt; "Round {name}: {live} are live.")?;
     show_side(rt, "one", &round.one, &round.live)?;
     show_side(rt, "two", &round.two, &round.live)?;
-    let one = Side {
-        rule: &round.one.quotas,
-        ranking: &round.one.ranks,
-    };
-    let two = Side {
-        rule: &round.two.quotas,
-        ranking: &round.two.ranks,
-    };
-    let cleared = clear(&one, &two, &round.live);
+    let cleared = clear(&round.one.side(), &round.two.side(), &round.live);
     let list = set_text(heap, &cleared.list)?;
     let turns = cleared.turns;
     let word = if turns == 1 { "turn" } else { "turns" };
@@ -30,69 +23,36 @@ pub(crate) fn show(rt: &HostRuntime, name: &str, round: &Round) -> anyhow::Resul
 
 // The caps that bind, each with the live applications at home in its group, and the live
 // applications from the first to the last.
-fn show_side(
-    rt: &HostRuntime,
-    name: &str,
-    side: &Parts,
-    live: &[bool; APPLICATIONS],
-) -> anyhow::Result<()> {
+fn show_side(rt: &HostRuntime, name: &str, side: &Parts, live: &Marks) -> anyhow::Result<()> {
     let heap = rt.alloc();
-    for number in 0..GROUPS {
-        if let Some(group) = Group::new(number as u32) {
-            let cap = side.quotas.cap(group);
-            if usize::from(cap) < APPLICATIONS {
-                let homed = set_text(heap, &at_home(side, group, live))?;
-                println!(rt; "  Side {name}: group {number} takes at most {cap} of {homed}.")?;
-            }
+    for group in (0..=u8::MAX).filter_map(|number| Group::try_from(u32::from(number)).ok()) {
+        let cap = side.quotas.cap(group);
+        if usize::from(cap) < APPLICATIONS {
+            let homed = set_text(heap, &at_home(side, group, live))?;
+            println!(rt; "  Side {name}: group {group} takes at most {cap} of {homed}.")?;
         }
     }
-    let ranked = ranking_text(heap, side, live)?;
+    let ranked = (0..=u8::MAX)
+        .map(|rank| side.ranks.holder(rank))
+        .filter(|one| live.contains(*one))
+        .join(heap, ", ")?;
     println!(rt; "  Side {name} ranks {ranked}.")?;
     Ok(())
 }
 
 // The live applications whose home is the group.
-fn at_home(side: &Parts, group: Group, live: &[bool; APPLICATIONS]) -> [bool; APPLICATIONS] {
-    let mut marks = [false; APPLICATIONS];
-    for (number, mark) in marks.iter_mut().enumerate() {
-        let home = side.quotas.home(Application::new(number as u8));
-        *mark = live[number] && home == group;
-    }
-    marks
+fn at_home(side: &Parts, group: Group, live: &Marks) -> Marks {
+    (0..=u8::MAX)
+        .map(Application::from)
+        .filter(|one| live.contains(*one) && side.quotas.home(*one) == group)
+        .fold(Marks::none(), |homed, next| homed.with(next))
 }
 
 // The marked numbers, rising, as a set.
-fn set_text(heap: Global, marks: &[bool; APPLICATIONS]) -> Result<String, AllocError> {
-    let mut text = String::from_str(heap, "{")?;
-    let mut first = true;
-    for (number, mark) in marks.iter().enumerate() {
-        if *mark {
-            if !first {
-                text.push_str(", ")?;
-            }
-            first = false;
-            text.push_str(number.to_string(heap)?.as_str())?;
-        }
-    }
-    text.push_str("}")?;
-    Ok(text)
-}
-
-// The live applications from the first to the last.
-fn ranking_text(
-    heap: Global,
-    side: &Parts,
-    live: &[bool; APPLICATIONS],
-) -> Result<String, AllocError> {
-    let mut text = String::new(heap);
-    for rank in 0..=255 {
-        let number = side.ranks.holder(rank).number();
-        if live[usize::from(number)] {
-            if !text.is_empty() {
-                text.push_str(", ")?;
-            }
-            text.push_str(number.to_string(heap)?.as_str())?;
-        }
-    }
-    Ok(text)
+fn set_text(heap: Global, marks: &Marks) -> Result<String, AllocError> {
+    let members = (0..=u8::MAX)
+        .map(Application::from)
+        .filter(|one| marks.contains(*one))
+        .join(heap, ", ")?;
+    format!(in heap; "{{{members}}}")
 }

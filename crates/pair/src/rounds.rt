@@ -1,8 +1,9 @@
 // The two rounds: four applications under two quota trees and two rank lists, set up by writes.
-use parts::numbers::APPLICATIONS;
-use parts::ranking::Ranking;
+use clearing::side::Side;
+use parts::marks::Marks;
+use parts::numbers::Application;
+use parts::part::Part;
 use parts::refusal::WriteRefusal;
-use parts::rule::Rule;
 use quotas::quota_tree::QuotaTree;
 use rankings::rank_list::RankList;
 
@@ -14,17 +15,17 @@ struct Write {
 }
 
 // What a side can accept, and what it would rather have.
-#[derive(Drop)]
+#[derive(Clone, Copy)]
 pub(crate) struct Parts {
     pub quotas: QuotaTree,
     pub ranks: RankList,
 }
 
-#[derive(Drop)]
+#[derive(Clone, Copy)]
 pub(crate) struct Round {
     pub one: Parts,
     pub two: Parts,
-    pub live: [bool; APPLICATIONS],
+    pub live: Marks,
 }
 
 // Groups 1 and 2 take one application each: {0, 1} and {2, 3} are at home there.
@@ -53,51 +54,50 @@ const PAIR_RANKS: [Write; 1] = [Write { key: 3, value: 2 }];
 // From 0, 1, 2, 3 to 2, 0, 1, 3: application 2 gets rank 0, then 0 gets rank 1.
 const COLLEGE_RANKS: [Write; 2] = [Write { key: 2, value: 0 }, Write { key: 0, value: 1 }];
 
-fn side_parts(quotas: &[Write], ranks: &[Write]) -> Result<Parts, WriteRefusal> {
-    Ok(Parts {
-        quotas: quota_tree(quotas)?,
-        ranks: rank_list(ranks)?,
+// Puts each value under its key, up to the first that the part refuses.
+fn write_all<P: Part>(part: &mut P, writes: &[Write]) -> Result<(), WriteRefusal> {
+    for write in writes {
+        part.write(write.key, write.value)?;
+    }
+    Ok(())
+}
+
+impl Parts {
+    pub fn side(&self) -> Side<'_, QuotaTree, RankList> {
+        Side {
+            rule: &self.quotas,
+            ranking: &self.ranks,
+        }
+    }
+
+    // The parts after those writes.
+    fn written(quotas: &[Write], ranks: &[Write]) -> Result<Parts, WriteRefusal> {
+        let mut parts = Parts {
+            quotas: QuotaTree::new(),
+            ranks: RankList::new(),
+        };
+        write_all(&mut parts.quotas, quotas)?;
+        write_all(&mut parts.ranks, ranks)?;
+        Ok(parts)
+    }
+}
+
+// The round in which applications 0 to 3 are live and side one has that ranking.
+fn round_ranked(applicant_ranks: &[Write]) -> Result<Round, WriteRefusal> {
+    Ok(Round {
+        one: Parts::written(&ONE_OF_EACH_APPLICANT, applicant_ranks)?,
+        two: Parts::written(&ONE_AT_EACH_COLLEGE, &COLLEGE_RANKS)?,
+        live: (0..4)
+            .map(Application::from)
+            .fold(Marks::none(), |live, next| live.with(next)),
     })
-}
-
-fn quota_tree(writes: &[Write]) -> Result<QuotaTree, WriteRefusal> {
-    let mut tree = QuotaTree::new();
-    for write in writes {
-        tree.write(write.key, write.value)?;
-    }
-    Ok(tree)
-}
-
-fn rank_list(writes: &[Write]) -> Result<RankList, WriteRefusal> {
-    let mut list = RankList::new();
-    for write in writes {
-        list.write(write.key, write.value)?;
-    }
-    Ok(list)
-}
-
-// Applications 0 to 3 are live.
-fn four_live() -> [bool; APPLICATIONS] {
-    let mut live = [false; APPLICATIONS];
-    for mark in live.iter_mut().take(4) {
-        *mark = true;
-    }
-    live
 }
 
 pub(crate) fn pair() -> Result<Round, WriteRefusal> {
-    Ok(Round {
-        one: side_parts(&ONE_OF_EACH_APPLICANT, &PAIR_RANKS)?,
-        two: side_parts(&ONE_AT_EACH_COLLEGE, &COLLEGE_RANKS)?,
-        live: four_live(),
-    })
+    round_ranked(&PAIR_RANKS)
 }
 
 // As `pair`, but side one ranks by number.
 pub(crate) fn rush() -> Result<Round, WriteRefusal> {
-    Ok(Round {
-        one: side_parts(&ONE_OF_EACH_APPLICANT, &[])?,
-        two: side_parts(&ONE_AT_EACH_COLLEGE, &COLLEGE_RANKS)?,
-        live: four_live(),
-    })
+    round_ranked(&[])
 }

@@ -1,32 +1,53 @@
 -- Rows of marks, one for each application, as sets. Assumes nothing.
-use Rattle.std.proofs.Common.{◌≡◌, ℕ, ◌<◌, ◌≤◌, Bool, false, List, length, get_or, replicate, sym, ap, ◌∙◌, inl, inr, arith}
+use Rattle.std.proofs.Common.{◌≡◌, ℕ, suc, zero, ◌+◌, ◌<◌, ◌≤◌, Bool, false, List, length, get_or, replicate, take, sym, refl, ap, ◌∙◌, inl, inr, arith, cond, add-one}
 use mathlib.Core.Path.{fun_ext}
-use Rattle.std.proofs.lemmas.List.{ext_get_or, get_or_past, get_or-replicate, length-replicate}
+use Rattle.std.specs.List.{count_by}
+use Rattle.std.proofs.lemmas.List.{ext_get_or, get_or_past, get_or-replicate, length-replicate, take_all}
+use Rattle.std.proofs.lemmas.List.Sums.{sum_by_more}
 use Rattle.std.proofs.lemmas.Bool.{both_ways, cases_lt}
-use Rattle.matroid.specs.Sets.{Set, ◌∉◌, Below, members}
+use Rattle.matroid.specs.Sets.{Set, ◌∉◌, ∅, Below, card}
 use Rattle.parts.specs.Limits.{applications}
+use Rattle.parts.specs.Marks.{members}
+use Rattle.parts.specs.declared.marks.Marks.{Marks}
 
--- past its end a row has no marks
-pub unmarked_past : (row : List Bool) → length row ≡ applications → (x : ℕ) → applications ≤ x → x ∉ members row
-unmarked_past row long x past = get_or_past row x false (omega arith)
+-- a row has no members past its end
+pub unmarked_past : (marks : Marks) (x : ℕ) → applications ≤ x → x ∉ members marks
+unmarked_past marks x past = get_or_past marks.row x false (omega (arith, marks.long))
 
-pub no_marks : (n x : ℕ) → x ∉ members (replicate n false)
-no_marks n x = elim (cases_lt x n) [
+pub marked_below : (marks : Marks) → Below applications (members marks)
+marked_below marks x marked = elim (cases_lt x applications)
+    [ inl below ↦ below | inr past ↦ absurd (both_ways (members marks x) (unmarked_past marks x past) marked) ]
+
+-- Marks stand for a set where their members below the number of applications are the same, and the
+-- set has no others.
+pub stands_for : (marks : Marks) (S : Set) → ((x : ℕ) → applications ≤ x → x ∉ S)
+    → ((x : ℕ) → x < applications → members marks x ≡ S x) → members marks ≡ S
+stands_for marks S none same = fun_ext (λ x. elim (cases_lt x applications)
+    [ inl below ↦ same x below | inr past ↦ unmarked_past marks x past ∙ sym (none x past) ])
+
+-- a row without a mark stands for the empty set
+pub no_members : (marks : Marks) (n : ℕ) → marks.row ≡ replicate n false → members marks ≡ ∅
+no_members marks n none = fun_ext (λ x. ap (λ row. get_or row x false) none ∙ elim (cases_lt x n) [
   | inl below ↦ get_or-replicate n x false false below
   | inr past ↦ get_or_past (replicate n false) x false (omega (arith, length-replicate n false))
-]
-
-pub marked_below : (row : List Bool) → length row ≡ applications → Below applications (members row)
-marked_below row long x marked = elim (cases_lt x applications)
-    [ inl below ↦ below | inr past ↦ absurd (both_ways (get_or row x false) (unmarked_past row long x past) marked) ]
-
--- a row stands for a set where their members below the number of applications are the same, and
--- the set has no others
-pub row_of : (row : List Bool) (S : Set) → length row ≡ applications → ((x : ℕ) → applications ≤ x → x ∉ S)
-    → ((x : ℕ) → x < applications → get_or row x false ≡ S x) → members row ≡ S
-row_of row S long none same = fun_ext (λ x. elim (cases_lt x applications)
-    [ inl below ↦ same x below | inr past ↦ unmarked_past row long x past ∙ sym (none x past) ])
+])
 
 -- rows that stand for one set are equal
-pub same_row : (a b : List Bool) → length a ≡ applications → length b ≡ applications → members a ≡ members b → a ≡ b
-same_row a b a_long b_long same = ext_get_or false a b (a_long ∙ sym b_long) (λ x h. ap (λ S. S x) same)
+pub same_row : (a b : Marks) → members a ≡ members b → a.row ≡ b.row
+same_row a b same = ext_get_or false a.row b.row (a.long ∙ sym b.long) (λ x h. ap (λ S. S x) same)
+
+-- the marks before a place are as many as the members below it
+marks_before : (row : List Bool) (n : ℕ) → n ≤ length row → count_by (λ mark. mark) (take n row) ≡ card n (λ x. get_or row x false)
+unfolding card
+marks_before row zero within = refl
+marks_before row (suc n) within =
+    let before = marks_before row n (omega arith) in
+    let more = sum_by_more (λ mark. cond mark 1 0) row n false (omega arith) in
+    ap (λ k. count_by (λ mark. mark) (take k row)) (sym (add-one n))
+    ∙ more ∙ ap (λ k. k + cond (get_or row n false) 1 0) before
+
+-- the marks of a row are as many as its members
+pub marks_counted : (marks : Marks) → count_by (λ (mark : Bool). mark) marks.row ≡ card applications (members marks)
+marks_counted marks =
+    ap (count_by (λ (mark : Bool). mark)) (sym (take_all applications marks.row (omega (arith, marks.long))))
+    ∙ marks_before marks.row applications (omega (arith, marks.long))

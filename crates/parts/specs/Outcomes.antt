@@ -31,16 +31,15 @@ abbrev pub refusal_above : WriteRefusal → WriteRefusal
 refusal_above refusal = record { cause = refusal.cause; depth = min (refusal.depth + 1) 65535; key = refusal.key }
 
 -- What a part's settings make of a write: it is accepted, with the settings after it, or refused.
-pub data Outcome (Settings : Type 0) : Type 0 where
-  accepted : Settings → Outcome Settings
-  refused : WriteRefusal → Outcome Settings
+abbrev pub Outcome : Type 0 → Type 0
+Outcome Settings = Result Settings WriteRefusal
 
 -- a refusal by the part that was written to
 abbrev pub refuses : {Settings : Type 0} → Cause → ℕ → Outcome Settings
-refuses cause key = refused (refusal_here cause key)
+refuses cause key = Err (refusal_here cause key)
 
 -- A write that found the settings `before`, answered r and left the settings `after` did what the
 -- outcome says: an accepted one leaves the new settings, a refused one answers why and leaves them.
 abbrev pub Follows : {Settings : Type 0} → Outcome Settings → (before after : Settings) → Result (Unit {0}) WriteRefusal → Type 0
-Follows (accepted new) before after r = (r ≡ Ok tt) × (after ≡ new)
-Follows (refused why) before after r = (r ≡ Err why) × (after ≡ before)
+Follows (Ok new) before after r = (r ≡ Ok tt) × (after ≡ new)
+Follows (Err why) before after r = (r ≡ Err why) × (after ≡ before)

@@ -5,6 +5,7 @@
 pub mod laws;
 pub mod marks;
 pub mod numbers;
+pub mod part;
 pub mod ranking;
 pub mod refusal;
 pub mod rule;

@@ -1,33 +1,101 @@
-// Rows of marks, one for each application: one more is marked, and the marks are counted.
-ghost use Rattle.std.specs.Prelude.{◌≡◌, if◌then◌else◌};
-ghost use Rattle.matroid.specs.Sets.{add, card, members};
+// Sets of applications, as rows of marks.
+ghost use Rattle.std.specs.Prelude.{◌≡◌, length};
 ghost use Rattle.parts.specs.Limits.{applications};
 
 use crate::numbers::{APPLICATIONS, Application};
 
-// The marked applications and that one.
-pub fn with(marked: &[bool; APPLICATIONS], asked: Application) -> [bool; APPLICATIONS]
-    ensures { members result ≡ add (members marked.now) asked.0 }
-{
-    let mut all = *marked;
-    all[asked.index()] = true;
-    all
+// A set of applications: a mark for each of them, set where it is a member.
+#[derive(Clone, Copy, PartialEq, Eq, Debug)]
+pub struct Marks {
+    row: [bool; APPLICATIONS],
+    ghost long: { length row ≡ applications },
 }
 
-// What a mark counts: one where it is set.
-fn weight(mark: bool) -> u16
-    ensures { result ≡ (if mark then 1 else 0) }
-{
-    u16::from(mark)
-}
+impl From<[bool; APPLICATIONS]> for Marks {
+    ghost from_gives = { λ row marks. marks.row ≡ row };
 
-// How many applications are marked.
-pub fn count(marked: &[bool; APPLICATIONS]) -> u16
-    ensures { result ≡ card applications (members marked.now) }
-{
-    let mut count = 0;
-    for c in 0..APPLICATIONS {
-        count += weight(marked[c]);
+    fn from(row: [bool; APPLICATIONS]) -> Marks {
+        Marks { row }
     }
-    count
+}
+
+impl Marks {
+    ghost use Rattle.std.specs.Prelude.{Decides};
+    ghost use Rattle.matroid.specs.Sets.{∅, ◌∪◌, ◌∖◌, add, card};
+    ghost use Rattle.parts.specs.Marks.{members};
+
+    // No application at all.
+    pub fn none() -> Marks
+        ensures { members result ≡ ∅ }
+    {
+        Marks::from([false; APPLICATIONS])
+    }
+
+    // The marks of the applications, by number.
+    pub fn row(&self) -> &[bool; APPLICATIONS]
+        ensures { result.now ≡ self.now.row }
+    {
+        &self.row
+    }
+
+    // Whether the application is a member.
+    pub fn contains(&self, application: Application) -> bool
+        ensures { result ≡ members self.now application.0 }
+    {
+        self.row[usize::from(application)]
+    }
+
+    // Makes the application a member.
+    pub fn insert(&mut self, application: Application)
+        ensures { members self.new ≡ add (members self.old) application.0 }
+    {
+        let place = usize::from(application);
+        self.row[place] = true;
+    }
+
+    // The members and that application.
+    pub fn with(&self, application: Application) -> Marks
+        ensures { members result ≡ add (members self.now) application.0 }
+    {
+        let mut all = *self;
+        all.insert(application);
+        all
+    }
+
+    // The members of this set and those of the other. The loop takes the place along, since of a row
+    // written through `zip` a proof knows nothing.
+    pub fn union(&self, other: &Marks) -> Marks
+        ensures { members result ≡ members self.now ∪ members other.now }
+    {
+        let mut row = self.row;
+        for (c, mark) in other.row.iter().enumerate() {
+            row[c] |= *mark;
+        }
+        Marks::from(row)
+    }
+
+    // The members of this set that the other has not.
+    pub fn difference(&self, other: &Marks) -> Marks
+        ensures { members result ≡ members self.now ∖ members other.now }
+    {
+        let mut row = self.row;
+        for (c, mark) in other.row.iter().enumerate() {
+            row[c] &= !*mark;
+        }
+        Marks::from(row)
+    }
+
+    // How many members there are.
+    pub fn count(&self) -> u16
+        ensures { result ≡ card applications (members self.now) }
+    {
+        self.row.iter().filter(|mark| **mark).count() as u16
+    }
+
+    // Whether both have the same members.
+    pub fn is_same(&self, other: &Marks) -> bool
+        ensures { Decides result (members self.now ≡ members other.now) }
+    {
+        self == other
+    }
 }

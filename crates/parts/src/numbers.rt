@@ -1,6 +1,10 @@
 // Application, group and place numbers: each a byte in a type of its own, so that none stands in for another.
-ghost use Rattle.std.specs.Prelude.{◌≡◌, ◌<◌, ◌≤◌, MatchOption, nat_lt};
-ghost use Rattle.parts.specs.Limits.{applications, groups, places};
+ghost use Rattle.std.specs.Prelude.{◌≡◌, ◌<◌, ◌≤◌, MatchResult, Some, decimal, nat_le};
+ghost use Rattle.parts.specs.Limits.{applications};
+ghost use Rattle.parts.specs.declared.refusal.Cause.TheVariants.{UnusedKey, ValueAboveLimit};
+
+use crate::refusal::Cause;
+use std::fmt;
 
 // How many application numbers there are.
 pub const APPLICATIONS: usize = 256;
@@ -11,105 +15,148 @@ pub const GROUPS: usize = 128;
 // How many places there are.
 pub const PLACES: usize = 32;
 
-// One applicant's bid for one college.
-#[derive(Clone, Copy, PartialEq, Eq, Debug)]
+// One applicant's bid for one college. The smaller number comes first.
+#[derive(Clone, Copy, PartialEq, Eq, PartialOrd, Ord, Debug)]
 pub struct Application(u8);
 
-impl Application {
-    pub fn new(number: u8) -> Application
-        ensures { result.0 ≡ number }
-    {
+impl From<u8> for Application {
+    ghost from_gives = { λ number application. application.0 ≡ number };
+
+    fn from(number: u8) -> Application {
         Application(number)
     }
+}
 
-    pub fn number(self) -> u8
-        ensures { result ≡ self.0 }
-    {
-        self.0
-    }
+// The application that a key names, where the keys of a part are the application numbers.
+impl TryFrom<u16> for Application {
+    type Error = Cause;
 
-    // Its place in a row of marks.
-    pub fn index(self) -> usize
-        ensures { (result ≡ self.0) × (result < applications) }
-    {
-        usize::from(self.0)
+    ghost try_from_gives = { λ key result. MatchResult result (λ application. (key < applications) × (application.0 ≡ key)) (λ cause. (applications ≤ key) × (cause ≡ UnusedKey)) };
+
+    fn try_from(key: u16) -> Result<Application, Cause> {
+        u8::try_from(key)
+            .map(Application::from)
+            .map_err(|_| Cause::UnusedKey)
     }
+}
+
+impl From<Application> for u8 {
+    ghost from_gives = { λ application number. number ≡ application.0 };
+
+    fn from(application: Application) -> u8 {
+        application.0
+    }
+}
+
+impl fmt::Display for Application {
+    ghost output = { λ application. Some (decimal application.0) };
+
+    fn fmt<W: fmt::Write>(&self, f: &mut fmt::Formatter<W>) -> fmt::Result {
+        write!(f, "{}", self.0)
+    }
+}
+
+// The application's place in a row of all of them.
+impl From<Application> for usize {
+    ghost from_gives = { λ application place. (place ≡ application.0) × (place < applications) };
+
+    fn from(application: Application) -> usize {
+        usize::from(application.0)
+    }
+}
+
+// A number below a limit. The smaller one comes first.
+#[derive(Clone, Copy, PartialEq, Eq, PartialOrd, Ord, Debug)]
+pub struct Below<const LIMIT: u8> {
+    number: u8,
+    ghost within: { number < LIMIT },
 }
 
 // A quota group.
-#[derive(Clone, Copy, PartialEq, Eq, Debug)]
-pub struct Group {
-    number: u8,
-    ghost within: { number < 128 },
-}
+pub type Group = Below<128>;
+
+// A seat at a college.
+pub type Place = Below<32>;
 
 impl Group {
     // Group 0, which lies above all the others.
-    pub const ROOT: Group = Group { number: 0 };
+    pub const ROOT: Group = Below { number: 0 };
+}
 
-    // The group of that number, if there is one.
-    pub fn new(number: u32) -> Option<Group>
-        ensures { MatchOption result (128 ≤ number) (λ g. g.number ≡ number) }
-    {
-        if (number as usize) < GROUPS {
-            Some(Group {
+impl<const LIMIT: u8> TryFrom<u32> for Below<LIMIT> {
+    type Error = Cause;
+
+    ghost try_from_gives = { λ number result. MatchResult result (λ below. (number < LIMIT) × (below.number ≡ number)) (λ cause. (LIMIT ≤ number) × (cause ≡ ValueAboveLimit)) };
+
+    fn try_from(number: u32) -> Result<Below<LIMIT>, Cause> {
+        if number < u32::from(LIMIT) {
+            Ok(Below {
                 number: number as u8,
             })
         } else {
-            None
+            Err(Cause::ValueAboveLimit)
         }
-    }
-
-    pub fn number(self) -> u8
-        ensures { result ≡ self.number }
-    {
-        self.number
-    }
-
-    // Its place in the table of groups.
-    pub fn index(self) -> usize
-        ensures { (result ≡ self.number) × (result < groups) }
-    {
-        usize::from(self.number)
-    }
-
-    // Whether the group's number is below that one.
-    pub fn is_below(self, number: usize) -> bool
-        ensures { result ≡ nat_lt self.number number }
-    {
-        self.index() < number
     }
 }
 
-// A seat at a college.
-#[derive(Clone, Copy, PartialEq, Eq, Debug)]
-pub struct Place {
-    seat: u8,
-    ghost within: { seat < 32 },
+impl<const LIMIT: u8> From<Below<LIMIT>> for u8 {
+    ghost from_gives = { λ below number. number ≡ below.number };
+
+    fn from(below: Below<LIMIT>) -> u8 {
+        below.number
+    }
 }
 
-impl Place {
-    // The place of that number, if there is one.
-    pub fn new(number: u32) -> Option<Place>
-        ensures { MatchOption result (32 ≤ number) (λ p. p.seat ≡ number) }
+impl<const LIMIT: u8> fmt::Display for Below<LIMIT> {
+    ghost output = { λ below. Some (decimal below.number) };
+
+    fn fmt<W: fmt::Write>(&self, f: &mut fmt::Formatter<W>) -> fmt::Result {
+        write!(f, "{}", self.number)
+    }
+}
+
+// The number's place in a table of as many rows as its limit.
+impl<const LIMIT: u8> From<Below<LIMIT>> for usize {
+    ghost from_gives = { λ below place. (place ≡ below.number) × (place < LIMIT) };
+
+    fn from(below: Below<LIMIT>) -> usize {
+        usize::from(below.number)
+    }
+}
+
+// How many applications a set may have at most, from none to all of them.
+#[derive(Clone, Copy, PartialEq, Eq, PartialOrd, Ord, Debug)]
+pub struct Cap(u16);
+
+impl Cap {
+    // The cap that never binds.
+    pub const WHOLE: Cap = Cap(256);
+
+    // Whether so many applications are within the cap.
+    pub fn admits(self, count: u16) -> bool
+        ensures { result ≡ nat_le count self.0 }
     {
-        if (number as usize) < PLACES {
-            Some(Place { seat: number as u8 })
-        } else {
-            None
+        count <= self.0
+    }
+}
+
+impl TryFrom<u32> for Cap {
+    type Error = Cause;
+
+    ghost try_from_gives = { λ most result. MatchResult result (λ cap. (most ≤ 256) × (cap.0 ≡ most)) (λ cause. (256 < most) × (cause ≡ ValueAboveLimit)) };
+
+    fn try_from(most: u32) -> Result<Cap, Cause> {
+        if most > 256 {
+            return Err(Cause::ValueAboveLimit);
         }
+        Ok(Cap(most as u16))
     }
+}
 
-    pub fn number(self) -> u8
-        ensures { result ≡ self.seat }
-    {
-        self.seat
-    }
+impl From<Cap> for u16 {
+    ghost from_gives = { λ cap most. most ≡ cap.0 };
 
-    // Its place in a table of places.
-    pub fn index(self) -> usize
-        ensures { (result ≡ self.seat) × (result < places) }
-    {
-        usize::from(self.seat)
+    fn from(cap: Cap) -> u16 {
+        cap.0
     }
 }

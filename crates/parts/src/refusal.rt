@@ -5,14 +5,15 @@ ghost use Rattle.parts.specs.Outcomes.{cause_number, cause_text, refusal_above, 
 use std::error::Error;
 use std::fmt;
 
+// The causes, each with its number in the rule book.
 #[derive(Clone, Copy, PartialEq, Eq, Debug)]
 pub enum Cause {
     // the key has no use in this part
-    UnusedKey,
+    UnusedKey = 1,
     // the value is above the limit of its key
-    ValueAboveLimit,
+    ValueAboveLimit = 2,
     // the parent is not smaller than the group
-    ParentNotSmaller,
+    ParentNotSmaller = 3,
 }
 
 impl Cause {
@@ -20,11 +21,7 @@ impl Cause {
     pub fn number(self) -> u8
         ensures { result ≡ cause_number self }
     {
-        match self {
-            Cause::UnusedKey => 1,
-            Cause::ValueAboveLimit => 2,
-            Cause::ParentNotSmaller => 3,
-        }
+        self as u8
     }
 }
 
@@ -53,22 +50,22 @@ impl WriteRefusal {
         ensures { result ≡ refusal_above self }
     {
         WriteRefusal {
-            cause: self.cause,
             depth: self.depth.saturating_add(1),
-            key: self.key,
+            ..self
         }
     }
 }
 
+// By hand, here and below, since a derive would say nothing of the text.
 impl fmt::Display for Cause {
     ghost output = { λ cause. Some (cause_text cause) };
 
     fn fmt<W: fmt::Write>(&self, f: &mut fmt::Formatter<W>) -> fmt::Result {
-        match self {
-            Cause::UnusedKey => f.write_str("the key has no use in this part"),
-            Cause::ValueAboveLimit => f.write_str("the value is above the limit of its key"),
-            Cause::ParentNotSmaller => f.write_str("the parent is not smaller than the group"),
-        }
+        f.write_str(match self {
+            Cause::UnusedKey => "the key has no use in this part",
+            Cause::ValueAboveLimit => "the value is above the limit of its key",
+            Cause::ParentNotSmaller => "the parent is not smaller than the group",
+        })
     }
 }
 
@@ -76,11 +73,11 @@ impl fmt::Display for WriteRefusal {
     ghost output = { λ refusal. Some (refusal_text refusal) };
 
     fn fmt<W: fmt::Write>(&self, f: &mut fmt::Formatter<W>) -> fmt::Result {
-        let cause = self.cause;
-        let depth = self.depth;
-        let key = self.key;
+        let WriteRefusal { cause, depth, key } = self;
         write!(f, "write refused at depth {depth}, key {key}: {cause}")
     }
 }
+
+impl Error for Cause {}
 
 impl Error for WriteRefusal {}

@@ -1,4 +1,5 @@
 pub mod Climbs
+pub mod Keys
 pub mod Laws
 pub mod Quotas
 pub mod Groups

@@ -4,6 +4,7 @@ ghost use Rattle.matroid.specs.Trees.{Rooted};
 ghost use Rattle.quotas.specs.Quotas.{parent_of};
 
 mod counts;
+mod keys;
 pub mod quotas;
 mod rules;
 mod settings;
@@ -11,7 +12,7 @@ mod writes;
 
 use quotas::Quotas;
 
-#[derive(Drop)]
+#[derive(Clone, Copy)]
 pub struct QuotaTree {
     quotas: Quotas,
     ghost rooted: { Rooted (parent_of quotas) },

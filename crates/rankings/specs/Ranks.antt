@@ -1,8 +1,8 @@
 -- The rank list: each of 256 applications has a rank of its own, and the smaller rank precedes.
 -- A row of ranks has the rank of application c at place c. Assumes nothing.
-use Rattle.std.specs.Prelude.{◌≡◌, ℕ, ◌<◌, Bool, cond, List, map, length, ◌==◌, nat_lt, slice_index, slice_set}
+use Rattle.std.specs.Prelude.{◌≡◌, ℕ, ◌<◌, Bool, cond, List, map, length, ◌==◌, nat_lt, slice_index, slice_set, Ok}
 use Rattle.parts.specs.Limits.{applications}
-use Rattle.parts.specs.Outcomes.{Outcome, accepted, refuses}
+use Rattle.parts.specs.Outcomes.{Outcome, refuses}
 use Rattle.parts.specs.declared.refusal.Cause.TheVariants.{UnusedKey, ValueAboveLimit}
 
 -- the rank of application c
@@ -32,5 +32,5 @@ exchanged ranks c v = slice_set (map (λ r. cond (r == v) (rank_of ranks c) r) r
 abbrev pub ranks_written : List ℕ → ℕ → ℕ → Outcome (List ℕ)
 ranks_written ranks key value =
     cond (nat_lt key applications)
-    (cond (nat_lt value applications) (accepted (exchanged ranks key value)) (refuses ValueAboveLimit key))
+    (cond (nat_lt value applications) (Ok (exchanged ranks key value)) (refuses ValueAboveLimit key))
     (refuses UnusedKey key)

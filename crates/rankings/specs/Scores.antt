@@ -1,8 +1,8 @@
 -- The scores: each application has a signed score, and the larger score precedes; of equal scores the
 -- smaller number does. A row of scores has the score of application c at place c. Assumes nothing.
-use Rattle.std.specs.Prelude.{ℕ, Bool, cond, ◌&&◌, ◌||◌, List, replicate, ℤ, pos, negsuc, ◌-ℤ◌, ◌≤ℤ◌, int_le, int_lt, nat_le, nat_lt, slice_index_or, slice_set}
+use Rattle.std.specs.Prelude.{ℕ, Bool, cond, ◌&&◌, ◌||◌, List, replicate, ℤ, pos, negsuc, ◌-ℤ◌, ◌≤ℤ◌, int_le, int_lt, nat_le, nat_lt, slice_index_or, slice_set, Ok}
 use Rattle.parts.specs.Limits.{applications}
-use Rattle.parts.specs.Outcomes.{Outcome, accepted, refuses}
+use Rattle.parts.specs.Outcomes.{Outcome, refuses}
 use Rattle.parts.specs.declared.refusal.Cause.TheVariants.{UnusedKey, ValueAboveLimit}
 
 -- the score of application c
@@ -28,5 +28,5 @@ first_scores = replicate applications (pos 0)
 abbrev pub scores_written : List ℤ → ℕ → ℕ → Outcome (List ℤ)
 scores_written scores key value =
     cond (nat_lt key applications)
-    (cond (nat_le value 2000) (accepted (slice_set scores key (pos value -ℤ pos 1000))) (refuses ValueAboveLimit key))
+    (cond (nat_le value 2000) (Ok (slice_set scores key (pos value -ℤ pos 1000))) (refuses ValueAboveLimit key))
     (refuses UnusedKey key)

@@ -2,73 +2,62 @@
 ghost use Rattle.std.specs.Prelude.{◌≡◌};
 ghost use Rattle.rankings.specs.Holders.{Paired};
 ghost use Rattle.rankings.specs.Ranks.{Distinct, exchanged, rank_before, rank_of, RankedByNumber, ranks_written};
-ghost use Rattle.rankings.specs.RanksLemmas.{paired_distinct, written_distinct};
+ghost use Rattle.rankings.specs.RanksLemmas.{exchanged_distinct, paired_distinct};
 ghost use Rattle.std.proofs.Common.{rules};
 
 use parts::numbers::{APPLICATIONS, Application};
+use parts::part::Part;
 use parts::ranking::Ranking;
 use parts::refusal::{Cause, WriteRefusal};
+use std::array;
 
-// The rank of each application, and the application that has each rank, so that an exchange
-// need not look for the other application.
-#[derive(Drop)]
+// The rank of each application, and the application that has each rank: a row by application and a row by
+// rank, of which each undoes the other, so that an exchange need not look for the other application.
+#[derive(Clone, Copy)]
 pub struct RankList {
     ranks: [u8; APPLICATIONS],
     holders: [Application; APPLICATIONS],
     ghost paired: { Paired ranks holders },
 }
 
-// At first an application's rank is its number.
-fn first_rank(application: Application) -> u8
-    ensures { result ≡ application.0 }
-{
-    application.number()
-}
-
 impl RankList {
-    // Every application with its first rank.
+    // Every application with its number for a rank.
     pub fn new() -> RankList
         ensures { RankedByNumber result.ranks }
     {
-        let mut ranks = [0; APPLICATIONS];
-        let mut holders = [Application::new(0); APPLICATIONS];
-        for number in 0..APPLICATIONS {
-            let application = Application::new(number as u8);
-            ranks[number] = first_rank(application);
-            holders[number] = application;
+        RankList {
+            ranks: array::from_fn(|number| number as u8),
+            holders: array::from_fn(|number| Application::from(number as u8)),
         }
-        RankList { ranks, holders }
     }
 
+    // The rank of the application.
     pub fn rank(&self, application: Application) -> u8
         ensures { result ≡ rank_of self.now.ranks application.0 }
     {
-        self.ranks[application.index()]
+        self.ranks[usize::from(application)]
     }
 
     // The application that has the rank.
     pub fn holder(&self, rank: u8) -> Application
         ensures { rank_of self.now.ranks result.0 ≡ rank }
     {
-        let place = usize::from(rank);
-        self.holders[place]
+        self.holders[usize::from(rank)]
     }
 
     // Gives the application the rank, and its former rank to the application that had this one.
     fn exchange(&mut self, application: Application, rank: u8)
         ensures { self.new.ranks ≡ exchanged self.old.ranks application.0 rank }
     {
-        let own = application.index();
-        let former = self.ranks[own];
-        let other = self.holders[usize::from(rank)];
-        self.ranks[other.index()] = former;
-        self.ranks[own] = rank;
-        self.holders[usize::from(former)] = other;
-        self.holders[usize::from(rank)] = application;
+        let former = self.rank(application);
+        let other = self.holder(rank);
+        self.ranks
+            .swap(usize::from(application), usize::from(other));
+        self.holders.swap(usize::from(former), usize::from(rank));
     }
 }
 
-impl Ranking for RankList {
+impl Part for RankList {
     // the rank of each application
     type Settings = [u8; APPLICATIONS];
 
@@ -76,35 +65,31 @@ impl Ranking for RankList {
 
     ghost sound = { Distinct };
 
-    ghost before = { rank_before };
-
     ghost written = { ranks_written };
 
     ghost settings_sound = { λ list. paired_distinct list.ranks list.holders list.paired };
 
-    ghost written_sound = { written_distinct };
+    ghost written_sound = { Prim.search (rules, exchanged_distinct) };
+
+    fn write(&mut self, key: u16, value: u32) -> Result<(), WriteRefusal> {
+        let refused = |cause| WriteRefusal::here(cause, key);
+        let application = Application::try_from(key).map_err(refused)?;
+        let rank = u8::try_from(value).map_err(|_| refused(Cause::ValueAboveLimit))?;
+        self.exchange(application, rank);
+        Ok(())
+    }
+
+    fn copied(&self) -> RankList {
+        *self
+    }
+}
+
+impl Ranking for RankList {
+    ghost before = { rank_before };
 
     ghost order = { Prim.search rules };
 
     fn precedes(&self, first: Application, second: Application) -> bool {
         self.rank(first) < self.rank(second)
-    }
-
-    fn write(&mut self, key: u16, value: u32) -> Result<(), WriteRefusal> {
-        if key > 255 {
-            return Err(WriteRefusal::here(Cause::UnusedKey, key));
-        }
-        if value > 255 {
-            return Err(WriteRefusal::here(Cause::ValueAboveLimit, key));
-        }
-        self.exchange(Application::new(key as u8), value as u8);
-        Ok(())
-    }
-
-    fn copied(&self) -> RankList {
-        RankList {
-            ranks: self.ranks,
-            holders: self.holders,
-        }
     }
 }

@@ -1,33 +1,30 @@
 // The scores: a ranking by a signed score for each application.
-ghost use Rattle.std.specs.Prelude.{◌≡◌, ◌<◌, ◌≤◌, pos, negsuc, ◌-ℤ◌, ◌≤ℤ◌, MatchOption};
+ghost use Rattle.std.specs.Prelude.{◌≡◌, ◌<◌, ◌≤◌, pos, negsuc, ◌-ℤ◌, ◌≤ℤ◌, MatchResult};
 ghost use Rattle.rankings.specs.Scores.{first_scores, score_before, score_of, scores_written, WithinThousand};
-ghost use Rattle.rankings.specs.Scored.{written_within, scores_order};
+ghost use Rattle.std.proofs.Common.{rules};
+ghost use Rattle.std.proofs.lemmas.Grind.{common_steps};
+ghost use Rattle.std.proofs.lemmas.Int.{ints};
 
 use parts::numbers::{APPLICATIONS, Application};
+use parts::part::Part;
 use parts::ranking::Ranking;
 use parts::refusal::{Cause, WriteRefusal};
+use std::cmp::Reverse;
 
 // The score of each application.
-#[derive(Drop)]
+#[derive(Clone, Copy)]
 pub struct Scores {
     scores: [i16; APPLICATIONS],
     ghost within: { WithinThousand scores },
 }
 
-// Every score starts at 0.
-fn start_score() -> i16
-    ensures { result ≡ pos 0 }
-{
-    0
-}
-
 impl Scores {
-    // Every application with the score that it starts with.
+    // Every application with the score 0.
     pub fn new() -> Scores
         ensures { result.scores ≡ first_scores }
     {
         Scores {
-            scores: [start_score(); APPLICATIONS],
+            scores: [0; APPLICATIONS],
         }
     }
 
@@ -35,22 +32,21 @@ impl Scores {
     pub fn score(&self, application: Application) -> i16
         ensures { (result ≡ score_of self.now.scores application.0) × ((negsuc 999 ≤ℤ result) × (result ≤ℤ pos 1000)) }
     {
-        self.scores[application.index()]
+        self.scores[usize::from(application)]
     }
 }
 
 // The score that the value sets, if it is within the limit.
-fn score_from(value: u32) -> Option<i16>
-    ensures { MatchOption result (2000 < value) (λ score. (value ≤ 2000) × (score ≡ pos value -ℤ pos 1000)) }
+fn score_from(value: u32) -> Result<i16, Cause>
+    ensures { MatchResult result (λ score. (value ≤ 2000) × (score ≡ pos value -ℤ pos 1000)) (λ cause. (2000 < value) × (cause ≡ Cause.ValueAboveLimit)) }
 {
     if value > 2000 {
-        None
-    } else {
-        Some(value as i16 - 1000)
+        return Err(Cause::ValueAboveLimit);
     }
+    Ok(value as i16 - 1000)
 }
 
-impl Ranking for Scores {
+impl Part for Scores {
     // the score of each application
     type Settings = [i16; APPLICATIONS];
 
@@ -58,35 +54,32 @@ impl Ranking for Scores {
 
     ghost sound = { WithinThousand };
 
-    ghost before = { score_before };
-
     ghost written = { scores_written };
 
     ghost settings_sound = { λ s. s.within };
 
-    ghost written_sound = { written_within };
-
-    ghost order = { λ scores within. scores_order scores };
-
-    fn precedes(&self, first: Application, second: Application) -> bool {
-        let (one, other) = (self.score(first), self.score(second));
-        one > other || (one == other && first.number() < second.number())
-    }
+    ghost written_sound = { Prim.search (rules, common_steps) };
 
     fn write(&mut self, key: u16, value: u32) -> Result<(), WriteRefusal> {
-        if key > 255 {
-            return Err(WriteRefusal::here(Cause::UnusedKey, key));
-        }
-        let Some(score) = score_from(value) else {
-            return Err(WriteRefusal::here(Cause::ValueAboveLimit, key));
-        };
-        self.scores[usize::from(key)] = score;
+        let refused = |cause| WriteRefusal::here(cause, key);
+        let application = Application::try_from(key).map_err(refused)?;
+        let score = score_from(value).map_err(refused)?;
+        self.scores[usize::from(application)] = score;
         Ok(())
     }
 
     fn copied(&self) -> Scores {
-        Scores {
-            scores: self.scores,
-        }
+        *self
+    }
+}
+
+impl Ranking for Scores {
+    ghost before = { score_before };
+
+    ghost order = { Prim.search (rules, ints) };
+
+    // The larger score comes first, and of equal scores the smaller number.
+    fn precedes(&self, first: Application, second: Application) -> bool {
+        (Reverse(self.score(first)), first) < (Reverse(self.score(second)), second)
     }
 }

@@ -1,11 +1,10 @@
 -- What it does to a seating when an application takes a place: the seating stays proper, the former
 -- holder is seated no more, and everybody else who was seated still is. Assumes nothing.
 use Rattle.std.proofs.Common.{◌≡◌, ℕ, ◌<◌, true, false, eqb, ◌⊎◌, List, length, get_or, set, Some, None, Option, sym, refl, ap, ◌∙◌, inl, inr, arith, get_or-set_other, get_or-set_same}
-use mathlib.Core.Path.{fun_ext}
-use Rattle.std.proofs.lemmas.Bool.{both_ways, cases_Bool, cases_eq, eq-eqb, eqb-true, false≢true, ne_eqb, or_cases, or_left, or_right}
-use Rattle.std.proofs.lemmas.Bool.Decides.{same_from_decides}
-use Rattle.matroid.specs.Sets.{Set, ◌∈◌, ◌∉◌, ◌⊆◌, ∅, add}
+use Rattle.std.proofs.lemmas.Bool.{both_ways, cases_Bool, cases_eq, eq-eqb, eqb-true, false_from_ne_true, false≢true, ne_eqb, or_cases, or_left, or_right}
+use Rattle.matroid.specs.Sets.{◌∈◌, ◌∉◌, ◌⊆◌, ∅, add}
 use Rattle.matroid.proofs.Every.{some_at, some_from}
+use Rattle.matroid.proofs.Sets.{same_set}
 use Rattle.parts.specs.Limits.{applications, places}
 use Rattle.parts.specs.declared.numbers.Application.{Application}
 use Rattle.seats.specs.Places.{allowed}
@@ -13,21 +12,15 @@ use Rattle.seats.specs.Seatings.{is_holder, holds_place, seated, Proper}
 use Rattle.seats.specs.Vacancies.{Vacant}
 use Rattle.seats.specs.declared.places.Places.{Places}
 
--- sets with the same members are equal
-same_members : (S U : Set) → S ⊆ U → U ⊆ S → S ≡ U
-same_members S U into back = fun_ext (λ x. same_from_decides {P = x ∈ U} (S x) (U x) (into x, back x) (λ h. h, λ h. h))
-
 -- no place is held by an application that is not seated
 holds_none : (holders : List (Option Application)) (x p : ℕ) → p < places → x ∉ seated holders → holds_place holders x p ≡ false
-holds_none holders x p low out = elim (cases_Bool (holds_place holders x p)) [
-  | inl here ↦ absurd (both_ways (seated holders x) out (some_from places (holds_place holders x) p low here))
-  | inr none ↦ none
-]
+holds_none holders x p low out = false_from_ne_true _ (λ here.
+    both_ways (seated holders x) out (some_from places (holds_place holders x) p low here))
 
 -- where no place is held, nobody is seated, and there is nothing to break the rules
 pub vacant : (holders : List (Option Application)) → ((p : ℕ) → p < places → get_or holders p None ≡ None) → Vacant holders
 vacant holders free = record {
-  nobody = same_members _ _ nowhere (λ x member. absurd (false≢true member));
+  nobody = same_set _ _ nowhere (λ x member. absurd (false≢true member));
   proper = λ masks. record {
     real = λ x p low here. absurd (none x p low here);
     lawful = λ x p low here. absurd (none x p low here);
@@ -83,7 +76,7 @@ module _ (holders : List (Option Application)) (a : Application) (p : ℕ) (low 
 
   -- a free place is taken: a is seated beside the others
   pub taken_free : get_or holders p None ≡ None → seated (set holders p (Some a)) ≡ add (seated holders) a.0
-  taken_free free = same_members _ _ taken_adds (λ x member. elim (or_cases (seated holders x) (eqb x a.0) member) [
+  taken_free free = same_set _ _ taken_adds (λ x member. elim (or_cases (seated holders x) (eqb x a.0) member) [
     | inl old ↦ taken_keeps x old (ap (λ o. is_holder o x) free)
     | inr new ↦ rw (eqb-true x a.0 new) taken_seated
   ])
@@ -91,7 +84,7 @@ module _ (holders : List (Option Application)) (a : Application) (p : ℕ) (low 
   -- a held place is taken, and the former holder h is seated again: a is seated beside the others
   pub taken_moved : (h : Application) → get_or holders p None ≡ Some h → (after : List (Option Application))
       → seated after ≡ add (seated (set holders p (Some a))) h.0 → seated after ≡ add (seated holders) a.0
-  taken_moved h former after again = same_members _ _ into back
+  taken_moved h former after again = same_set _ _ into back
     where
       into : seated after ⊆ add (seated holders) a.0
       into x member = elim (or_cases (seated (set holders p (Some a)) x) (eqb x h.0) (sym (ap (λ S. S x) again) ∙ member)) [

@@ -1,21 +1,24 @@
 -- A seating is an assignment of different allowed places, so the test for an assignment says of a
 -- set that was seated yes, and of one that cannot be seated no. And how a seating of the members
 -- below a number goes on to that number. Assumes nothing.
-use Rattle.std.proofs.Common.{◌≡◌, ℕ, ◌+◌, ◌<◌, true, false, List, get_or, is_some, Some, None, Option, sym, ap, ◌∙◌, ap₂, inl, inr, MatchOption}
-use Rattle.std.proofs.lemmas.Bool.{and_parts, cases_Bool}
+use Rattle.std.proofs.Common.{◌≡◌, ℕ, ◌+◌, ◌<◌, true, false, List, get_or, is_some, Some, None, Option, sym, ap, ◌∙◌, ap₂, subst, MatchOption}
+use Rattle.std.proofs.lemmas.Bool.{and_parts, false_from_ne_true}
 use Rattle.matroid.specs.Assignments.{Assignment}
 use Rattle.matroid.specs.Sets.{Set, ◌∈◌, ◌∉◌, add}
 use Rattle.matroid.proofs.Assignments.{assignable_by_assignment, assigned_part}
 use Rattle.matroid.proofs.Every.{latest, latest_passes, some_at}
 use Rattle.parts.specs.Limits.{applications, places}
+use Rattle.parts.specs.Marks.{members}
+use Rattle.parts.specs.declared.marks.Marks.{Marks}
 use Rattle.parts.specs.declared.numbers.Application.{Application}
+use Rattle.parts.proofs.Rows.{marked_below}
 use Rattle.seats.specs.Bids.{seatable, Unseatable}
 use Rattle.seats.specs.Places.{allowed}
 use Rattle.seats.specs.Seatings.{holds_place, seated, Seating}
-use Rattle.seats.specs.Vacancies.{LetIn}
+use Rattle.seats.specs.Vacancies.{LetIn, Vacant}
 use Rattle.seats.specs.declared.places.Places.{Places}
 use Rattle.seats.specs.declared.seating.Seats.{Seats}
-use Rattle.seats.proofs.Fronts.{front, front_adds, front_lacks, front_skips}
+use Rattle.seats.proofs.Fronts.{front, front_adds, front_all, front_lacks, front_none, front_skips}
 use Rattle.seats.proofs.Trials.{number_held, number_of}
 
 module _ (masks : List Places) (S : Set) where
@@ -41,12 +44,9 @@ module _ (masks : List Places) (S : Set) where
     seated_yes = (assignable_by_assignment applications places (allowed masks) S).1 (place_of, seating_assigned)
 
   unseatable_no : Unseatable masks S → seatable masks S ≡ false
-  unseatable_no none = elim (cases_Bool (seatable masks S)) [
-    | inl passes ↦
-        let (place, assigned) = (assignable_by_assignment applications places (allowed masks) S).0 passes in
-        absurd (none place assigned)
-    | inr fails ↦ fails
-  ]
+  unseatable_no none = false_from_ne_true (seatable masks S) (λ passes.
+      let (place, assigned) = (assignable_by_assignment applications places (allowed masks) S).0 passes in
+      none place assigned)
 
   -- a search that finds a seating exactly where there is one answers what the test says
   pub found_or_not : (found : Option Seats) → MatchOption found (Unseatable masks S) (λ seats. Seating masks seats.holders S)
@@ -54,21 +54,31 @@ module _ (masks : List Places) (S : Set) where
   found_or_not None none = sym (unseatable_no none)
   found_or_not (Some seats) seating = sym (seated_yes seats.holders seating)
 
+  -- where nobody is seated, the members below 0 are
+  pub none_seated : (holders : List (Option Application)) → Vacant holders → Seating masks holders (front S 0)
+  none_seated holders vacant = record { proper = vacant.proper masks; all = vacant.nobody ∙ sym (front_none S) }
+
   -- the members of S below n are seated, and n is asked about next
-  module _ (n asked : ℕ) (next : asked ≡ n) (holders : List (Option Application)) (so_far : Seating masks holders (front S n)) where
+  module _ {n asked : ℕ} {holders : List (Option Application)} (next : asked ≡ n) (so_far : Seating masks holders (front S n)) where
     pub next_unseated : asked ∉ seated holders
     next_unseated = ap (λ U. U asked) so_far.all ∙ ap (front S n) next ∙ front_lacks S n
 
-    pub next_skipped : n ∉ S → Seating masks holders (front S (n + 1))
-    next_skipped out = record { proper = so_far.proper; all = so_far.all ∙ front_skips S n out }
+    pub next_skipped : asked ∉ S → Seating masks holders (front S (n + 1))
+    next_skipped out = record { proper = so_far.proper; all = so_far.all ∙ front_skips S n (rw next at out) }
 
-    with_next : n ∈ S → add (seated holders) asked ≡ front S (n + 1)
-    with_next member = ap₂ add so_far.all next ∙ front_adds S n member
+    with_next : asked ∈ S → add (seated holders) asked ≡ front S (n + 1)
+    with_next member = ap₂ add so_far.all next ∙ front_adds S n (rw next at member)
 
-    pub next_seated : n ∈ S → (after : List (Option Application)) → LetIn masks holders after asked → Seating masks after (front S (n + 1))
-    next_seated member after let-in = record { proper = let-in.proper; all = let-in.all ∙ with_next member }
+    pub next_seated : asked ∈ S → {after : List (Option Application)} → LetIn masks holders after asked → Seating masks after (front S (n + 1))
+    next_seated member let-in = record { proper = let-in.proper; all = let-in.all ∙ with_next member }
 
     -- where there is no room for those seated and n, there is none for all the members
-    pub next_crowded : n ∈ S → Unseatable masks (add (seated holders) asked) → Unseatable masks S
+    pub next_crowded : asked ∈ S → Unseatable masks (add (seated holders) asked) → Unseatable masks S
     next_crowded member none place assigned = none place (assigned_part places (allowed masks) applications applications _ S place
         (λ x h here. (h, (and_parts (S x) _ (sym (ap (λ U. U x) (with_next member)) ∙ here)).0)) assigned)
+
+-- with the members below the number of applications all are seated
+pub all_seated : {masks : List Places} {holders : List (Option Application)} (marks : Marks) (n : ℕ) → n + 1 ≡ applications
+    → Seating masks holders (front (members marks) (n + 1)) → Seating masks holders (members marks)
+all_seated {masks} {holders} marks n end seating = subst (Seating masks holders)
+    (ap (front (members marks)) end ∙ front_all (members marks) applications (marked_below marks)) seating

@@ -1,19 +1,19 @@
 -- A trial of the search for a seating, in which the asked application takes the first untried place that
 -- it is allowed: what comes of it, and why the search finds a place where there is one. Assumes nothing.
-use Rattle.std.proofs.Common.{◌≡◌, ℕ, ◌-◌, ◌^◌, ◌<◌, Bool, true, false, not, eqb, List, length, get_or, set, Some, None, MatchBool, Option, sym, ap, ◌∙◌, subst, inl, inr, arith, set-set}
+use Rattle.std.proofs.Common.{◌≡◌, ℕ, ◌-◌, ◌^◌, ◌<◌, true, false, not, eqb, List, length, get_or, set, Some, None, Option, sym, refl, ap, ◌∙◌, inl, inr, arith, set-set}
 use lib.Seq.{set-get_or}
-use Rattle.std.proofs.lemmas.Bool.{and_parts, both_ways, cases_Bool, cases_eq, eqb-true, false≢true, not_from_false, not-true, or_left}
+use Rattle.std.proofs.lemmas.Bool.{and_parts, both_ways, cases_Bool, cases_eq, eqb-true, false_from_ne_true, false≢true, not_from_false, not-true, or_left}
 use Rattle.matroid.specs.Sets.{Set, ◌∈◌, ◌∉◌, ◌⊆◌, ◌∖◌, add, card}
 use Rattle.matroid.proofs.Assignments.{crowded}
-use Rattle.matroid.proofs.Cards.{add_here, card_less}
+use Rattle.matroid.proofs.Cards.{add_here, card_less, card_mono}
 use Rattle.matroid.proofs.Every.{some_from}
 use Rattle.matroid.proofs.Pigeonhole.{without_here, without_other, without_parts}
 use Rattle.parts.specs.Limits.{applications, places}
 use Rattle.parts.specs.declared.numbers.Application.{Application}
-use Rattle.seats.specs.Places.{bit, allowed, FirstCommon}
+use Rattle.seats.specs.Places.{allowed, bit, FirstCommon}
 use Rattle.seats.specs.Bids.{Unseatable}
 use Rattle.seats.specs.Seatings.{is_holder, holds_place, seated, Proper}
-use Rattle.seats.specs.Vacancies.{Blocked, Exhausted, GaveWay, LetIn, Searched, Tried, Unseated}
+use Rattle.seats.specs.Vacancies.{Blocked, Exhausted, LetIn, Tried}
 use Rattle.seats.specs.declared.places.Places.{Places}
 use Rattle.seats.proofs.Bits.{bit_all}
 use Rattle.seats.proofs.Moves.{taken_free, taken_leaves, taken_moved, taken_other, taken_proper, holds_holder}
@@ -30,16 +30,21 @@ number_held (Some a) x here = eqb-true a.0 x here
 
 -- what is not untried any more stays so
 still_tried : (before after : ℕ) → bit after ⊆ bit before → (q : ℕ) → bit before q ≡ false → bit after q ≡ false
-still_tried before after part q out = elim (cases_Bool (bit after q))
-    [ inl here ↦ absurd (both_ways (bit before q) out (part q here)) | inr gone ↦ gone ]
+still_tried before after part q out = false_from_ne_true (bit after q) (λ here. both_ways (bit before q) out (part q here))
 
--- A trial of the search finds the holders as they stood at the start, and takes for a the first untried
--- place p that a is allowed, which is not untried next.
-pub record Trial (masks : List Places) (start holders : List (Option Application)) (untried next : ℕ) (a : Application) (p : ℕ)
+-- A search began with the masks `first` and the holders `start`: both stand as they stood, and every
+-- place that was tried, from `before` to `untried`, was in vain.
+pub record Underway (first masks : List Places) (start holders : List (Option Application)) (before untried : ℕ) : Type 0 where
+  pub same_masks : masks ≡ first
+  pub same_holders : holders ≡ start
+  pub tried : Tried masks holders before untried
+
+-- A trial takes for a the first untried place p that a is allowed, which is not untried next.
+pub record Trial (first masks : List Places) (start holders : List (Option Application)) (before untried next : ℕ) (a : Application) (p : ℕ)
     : Type 0 where
+  pub underway : Underway first masks start holders before untried
   pub proper : Proper masks holders
   pub new : a.0 ∉ seated holders
-  pub same : holders ≡ start
   pub long : length holders ≡ places
   pub below : a.0 < applications
   pub low : p < places
@@ -47,24 +52,24 @@ pub record Trial (masks : List Places) (start holders : List (Option Application
   pub was_untried : bit untried p ≡ true
   pub without : bit next ≡ bit untried ∖ eqb p
 
-pub trial_at : (masks : List Places) (start holders : List (Option Application)) (untried next : ℕ) (a : Application) (at seat p : ℕ)
-    → Proper masks start × (a.0 ∉ seated start) → holders ≡ start → length holders ≡ places → (at ≡ a.0) × (at < applications)
-    → FirstCommon (get_or masks at (record { 0 = 0 })).0 untried seat → bit next ≡ bit untried ∖ eqb seat → (p ≡ seat) × (p < places)
-    → Trial masks start holders untried next a p
-trial_at masks start holders untried next a at seat p pre same long number first without place = record {
-  proper = rw same pre.0;
-  new = rw same pre.1;
-  same = same;
+pub trial_at : {first masks : List Places} {start holders : List (Option Application)} {before untried next at number p : ℕ} {a : Application}
+    → Proper first start × (a.0 ∉ seated start) → Underway first masks start holders before untried → length holders ≡ places
+    → (at ≡ a.0) × (at < applications) → FirstCommon (get_or first at (record { 0 = 0 })).0 untried number
+    → (p ≡ number) × (p < places) → bit next ≡ bit untried ∖ eqb number → Trial first masks start holders before untried next a p
+trial_at pre underway long asked common place without = record {
+  underway = underway;
+  proper = rw (underway.same_masks, underway.same_holders) pre.0;
+  new = rw underway.same_holders pre.1;
   long = long;
   below = omega arith;
   low = place.1;
-  fits = rw (← number.0, place.0) (and_parts _ _ first.here).0;
-  was_untried = rw place.0 (and_parts _ _ first.here).1;
+  fits = rw (underway.same_masks, ← asked.0, place.0) (and_parts _ _ common.here).0;
+  was_untried = rw place.0 (and_parts _ _ common.here).1;
   without = rw place.0 without;
 }
 
-module _ {masks : List Places} {start holders : List (Option Application)} {untried next : ℕ} {a : Application} {p : ℕ}
-    (trial : Trial masks start holders untried next a p) where
+module _ {first masks : List Places} {start holders : List (Option Application)} {before untried next : ℕ} {a : Application} {p : ℕ}
+    (trial : Trial first masks start holders before untried next a p) where
   -- p is not untried next, and all the others that were untried are
   next_part : bit next ⊆ bit untried
   next_part q here = (without_parts (bit untried) p q (sym (ap (λ S. S q) trial.without) ∙ here)).0
@@ -79,86 +84,82 @@ module _ {masks : List Places} {start holders : List (Option Application)} {untr
   pub trial_proper : Proper masks (set holders p (Some a))
   trial_proper = taken_proper holders a p trial.low trial.long masks trial.proper trial.new trial.below trial.fits
 
-  trial_free : get_or holders p None ≡ None → LetIn masks start (set holders p (Some a)) a.0
-  trial_free free = record {
+  -- where a was let in beside the holders as they stand, it was so beside those at the start
+  from_start : {masks' : List Places} {after : List (Option Application)} → masks' ≡ masks → LetIn masks holders after a.0
+      → (masks' ≡ first) × LetIn first start after a.0
+  from_start kept let-in = rw (← trial.underway.same_masks, ← trial.underway.same_holders) (kept, let-in)
+
+  -- where nobody held p, a is let in
+  pub trial_free : None ≡ get_or holders p None → (masks ≡ first) × LetIn first start (set holders p (Some a)) a.0
+  trial_free free = from_start refl (record {
     proper = trial_proper;
-    all = taken_free holders a p trial.low trial.long free ∙ ap (λ held. add (seated held) a.0) trial.same;
-  }
+    all = taken_free holders a p trial.low trial.long (sym free);
+  })
 
   -- without p fewer places are untried
-  pub trial_less : (first last : ℕ) → bit untried ⊆ bit first → bit last ⊆ bit next → card places (bit last) < card places (bit first)
-  trial_less first last into part =
-      card_less places (bit last) (bit first) (λ q here. into q (next_part q (part q here))) p trial.low
-      (into p trial.was_untried) (still_tried next last part p next_out)
+  less : (last : ℕ) → bit last ⊆ bit next → card places (bit last) < card places (bit untried)
+  less last part = card_less places (bit last) (bit untried) (λ q here. next_part q (part q here)) p trial.low
+      trial.was_untried (still_tried next last part p next_out)
+
+  pub trial_less : card places (bit next) < card places (bit before)
+  trial_less = omega (arith, less next (λ q here. here), card_mono places (bit untried) (bit before) trial.underway.tried.fewer)
 
   -- the former holder h has to look for another place
-  module _ (h : Application) (former : get_or holders p None ≡ Some h) where
-    trial_leaves : h.0 ∉ seated (set holders p (Some a))
+  module _ {h : Application} (held : Some h ≡ get_or holders p None) where
+    former : get_or holders p None ≡ Some h
+    former = sym held
+
+    pub trial_leaves : h.0 ∉ seated (set holders p (Some a))
     trial_leaves = taken_leaves holders a p trial.low trial.long masks trial.proper trial.new h former
 
-    -- it finds one
-    trial_moved : (after : List (Option Application)) → LetIn masks (set holders p (Some a)) after h.0
-        → LetIn masks start after a.0
-    trial_moved after again = record {
-      proper = again.proper;
-      all = taken_moved holders a p trial.low trial.long h former after again.all
-          ∙ ap (λ held. add (seated held) a.0) trial.same;
-    }
+    module _ {masks' : List Places} {after : List (Option Application)} where
+      -- where it finds one, a is let in
+      pub trial_moved : (masks' ≡ masks) × LetIn masks (set holders p (Some a)) after h.0 → (masks' ≡ first) × LetIn first start after a.0
+      trial_moved (kept, again) = from_start kept (record {
+        proper = again.proper;
+        all = taken_moved holders a p trial.low trial.long h former after again.all;
+      })
 
-    -- it finds none, and gets its place back
-    trial_back : (after : List (Option Application)) → after ≡ set holders p (Some a) → set after p (Some h) ≡ start
-    trial_back after left =
-        ap (λ held. set held p (Some h)) left ∙ set-set holders p (Some a) (Some h)
-        ∙ ap (set holders p) (sym former) ∙ set-get_or holders p None ∙ trial.same
+      module _ {last : ℕ} (lost : (masks' ≡ masks) × ((after ≡ set holders p (Some a)) × Blocked masks (set holders p (Some a)) next last h.0)) where
+        blocked : Blocked masks (set holders p (Some a)) next last h.0
+        blocked = lost.1.1
 
-    -- then all that was tried before, p, and what the former holder tried were in vain
-    trial_vain : (first last : ℕ) → Tried masks start first untried → Blocked masks (set holders p (Some a)) next last h.0
-        → Tried masks start first last
-    trial_vain first last tried (more, spent) = record { fewer = λ q here. tried.fewer q (part q here); taken = vain }
-      where
         part : bit last ⊆ bit untried
-        part q here = next_part q (more.fewer q here)
+        part q here = next_part q (blocked.0.fewer q here)
 
-        there : (x q : ℕ) → holds_place holders x q ≡ true → holds_place start x q ≡ true
-        there x q here = rw trial.same at here
+        -- where it finds none, still fewer places are untried
+        pub trial_lost_less : card places (bit last) < card places (bit untried)
+        trial_lost_less = less last blocked.0.fewer
 
-        vain : (q : ℕ) → q < places → bit first q ≡ true → bit last q ≡ false
-            → (x : ℕ) × (holds_place start x q ≡ true) × Exhausted masks last x
+        -- all that was tried before, p, and what it tried were in vain
+        vain : (q : ℕ) → q < places → bit before q ≡ true → bit last q ≡ false
+            → (x : ℕ) × (holds_place holders x q ≡ true) × Exhausted masks last x
         vain q low was gone = elim (cases_Bool (bit untried q)) [
           | inl lately ↦ elim (cases_eq q p) [
-            | inl e ↦ (h.0, rw e (there h.0 p (holds_holder holders p h former)), spent)
+            | inl e ↦ (h.0, rw e (holds_holder holders p h former), blocked.1)
             | inr other ↦
-                let (x, here, none) = more.taken q low (next_other q lately other) gone in
-                (x, there x q (sym (taken_other holders a p trial.low trial.long x q other) ∙ here), none)
+                let (x, here, none) = blocked.0.taken q low (next_other q lately other) gone in
+                (x, sym (taken_other holders a p trial.low trial.long x q other) ∙ here, none)
           ]
-          | inr before ↦
-              let (x, here, none) = tried.taken q low was before in
+          | inr earlier ↦
+              let (x, here, none) = trial.underway.tried.taken q low was earlier in
               (x, here, λ r r_low may. still_tried untried last part r (none r r_low may))
         ]
 
-  -- the former holder, if there was one, is unseated
-  pub trial_unseats : (former : Option Application) → get_or holders p None ≡ former → Unseated (set holders p (Some a)) former
-  trial_unseats None is = tt
-  trial_unseats (Some h) is = trial_leaves h is
+        -- and it gets its place back
+        back : set after p (Some h) ≡ holders
+        back = rw lost.1.0 (set-set holders p (Some a) (Some h) ∙ ap (set holders p) held ∙ set-get_or holders p None)
 
-  -- where it finds another place, a is let in
-  pub trial_found : (former : Option Application) → get_or holders p None ≡ former → (after : List (Option Application)) (last : ℕ)
-      → GaveWay masks former (set holders p (Some a)) after next last true → LetIn masks start after a.0
-  trial_found None is after last (_, left) = rw left (trial_free is)
-  trial_found (Some h) is after last again = trial_moved h is after again
-
-  -- where it finds none, it gets its place back, and one place more was tried in vain
-  pub trial_lost : (former : Option Application) → get_or holders p None ≡ former → (after : List (Option Application)) (last : ℕ)
-      → GaveWay masks former (set holders p (Some a)) after next last false
-      → (bit last ⊆ bit next) × (set after p former ≡ start)
-      × ((first : ℕ) → Tried masks start first untried → Tried masks start first last)
-  trial_lost None is after last (found, _) = absurd (false≢true found)
-  trial_lost (Some h) is after last (left, blocked) =
-      (blocked.0.fewer, trial_back h is after left, λ first tried. trial_vain h is first last tried blocked)
+        pub trial_lost : Underway first masks' start (set after p (Some h)) before last
+        trial_lost = rw (lost.0, back) (record {
+          same_masks = trial.underway.same_masks;
+          same_holders = trial.underway.same_holders;
+          tried = record { fewer = λ q here. trial.underway.tried.fewer q (part q here); taken = vain };
+        })
 
 -- a search that tried every place at first finds no room only where there is none: the places that it
 -- tried are full, and their holders and the asked application are allowed none but these
-no_room : (masks : List Places) (holders : List (Option Application)) (last asked : ℕ) → Proper masks holders
+pub no_room : (masks : List Places) (holders : List (Option Application)) (last asked : ℕ) → Proper masks holders
     → asked ∉ seated holders → asked < applications → Blocked masks holders (2 ^ 32 - 1) last asked
     → Unseatable masks (add (seated holders) asked)
 no_room masks holders last asked proper new below (tried, spent) =
@@ -197,11 +198,3 @@ no_room masks holders last asked proper new below (tried, spent) =
 
     only : (q : ℕ) → q < places → allowed masks asked q ≡ true → q ∈ full
     only = filled asked spent
-
--- what the whole search answers, when at first every place is untried
-pub searched : (masks : List Places) (before after : List (Option Application)) (first last asked : ℕ) (r : Bool) → first ≡ 2 ^ 32 - 1
-    → Proper masks before × (asked ∉ seated before) → asked < applications → Searched masks before after first last asked r
-    → MatchBool r (LetIn masks before after asked) ((after ≡ before) × Unseatable masks (add (seated before) asked))
-searched masks before after first last asked true all pre below let_in = let_in
-searched masks before after first last asked false all pre below (same, blocked) =
-    (same, no_room masks before last asked pre.0 pre.1 below (subst (λ untried. Blocked masks before untried last asked) all blocked))

@@ -1,6 +1,6 @@
 -- What it comes to when an application looks for a place, step by step. Assumes nothing.
-use Rattle.std.specs.Prelude.{◌≡◌, ℕ, ◌<◌, Bool, true, false, List, Some, None, MatchBool, Option}
-use Rattle.matroid.specs.Sets.{◌∉◌, ∅, add}
+use Rattle.std.specs.Prelude.{◌≡◌, ℕ, ◌<◌, Bool, true, false, List, MatchBool, Option}
+use Rattle.matroid.specs.Sets.{∅, add}
 use Rattle.parts.specs.Limits.{places}
 use Rattle.parts.specs.declared.numbers.Application.{Application}
 use Rattle.seats.specs.Places.{allowed, bit}
@@ -37,14 +37,3 @@ pub record LetIn (masks : List Places) (before after : List (Option Application)
 abbrev pub Searched : List Places → (holders holders' : List (Option Application)) → (untried untried' asked : ℕ) → Bool → Type 0
 Searched masks holders holders' untried untried' asked found =
     MatchBool found (LetIn masks holders holders' asked) ((holders' ≡ holders) × Blocked masks holders untried untried' asked)
-
--- whoever held a place before, if anybody did, holds none now
-abbrev pub Unseated : List (Option Application) → Option Application → Type 0
-Unseated holders None = Unit {0}
-Unseated holders (Some former) = former.0 ∉ seated holders
-
--- What came of it when the former holder of a place, if there was one, had to look for another.
-abbrev pub GaveWay : List Places → Option Application → (holders holders' : List (Option Application)) → (untried untried' : ℕ) → Bool → Type 0
-GaveWay masks None holders holders' untried untried' found = (found ≡ true) × (holders' ≡ holders)
-GaveWay masks (Some former) holders holders' untried untried' found =
-    Searched masks holders holders' untried untried' former.0 found

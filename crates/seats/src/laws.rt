@@ -1,15 +1,13 @@
-// What is proved of the seat bids, whatever was written to them. Each function stands for a theorem:
-// it does nothing, and its contract is what is proved.
-ghost use Rattle.parts.specs.Laws.{AlwaysAMatroid};
+// What is proved of the seat bids, whatever was written to them. The function stands for a theorem: it
+// does nothing, and its contract is what is proved.
 ghost use Rattle.seats.specs.Laws.{SeatBidsAreAssignments};
-ghost use Rattle.seats.specs.contracts.seat_bids.SeatBidsRule.TheImpl as by_seats;
+
+use crate::seat_bids::SeatBids;
+use parts::part::Part;
+use parts::rule::Rule;
 
 // A set is independent exactly when there is an assignment of different allowed places to its members.
+#[tactic(auto, using(matroid::proofs::Assignments::assignable_by_assignment))]
 pub fn seat_bids_are_assignments()
-    ensures { SeatBidsAreAssignments by_seats.ghosts }
-{}
-
-// The independent sets of seat bids are those of a matroid.
-pub fn seat_bids_are_matroids()
-    ensures { AlwaysAMatroid by_seats.ghosts }
+    ensures { SeatBidsAreAssignments ⟦<SeatBids as Part>⟧.settings ⟦<SeatBids as Rule>⟧.independent }
 {}

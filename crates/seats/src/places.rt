@@ -11,61 +11,52 @@ use parts::numbers::Place;
 #[derive(Clone, Copy, PartialEq, Eq, Debug)]
 pub struct Places(u32);
 
-impl Places {
-    // The places whose bits are set.
-    pub fn from_bits(bits: u32) -> Places
-        ensures { result.0 ≡ bits }
-    {
+// The places whose bits are set.
+impl From<u32> for Places {
+    ghost from_gives = { λ bits places. places.0 ≡ bits };
+
+    fn from(bits: u32) -> Places {
         Places(bits)
     }
+}
 
-    // The bits of the places.
-    pub fn bits(self) -> u32
-        ensures { result ≡ self.0 }
-    {
-        self.0
+// The bits of the places.
+impl From<Places> for u32 {
+    ghost from_gives = { λ places bits. bits ≡ places.0 };
+
+    fn from(places: Places) -> u32 {
+        places.0
     }
+}
+
+impl Places {
+    // No place.
+    pub const NONE: Places = Places(0);
 
     // Every place: all the 32 bits.
-    pub fn all() -> Places
-        ensures { result.0 ≡ 2 ^ 32 - 1 }
-    {
-        Places(u32::MAX)
-    }
-
-    // That place alone.
-    fn only(place: Place) -> Places
-        ensures { result.0 ≡ 2 ^ place.seat }
-    {
-        Places(1 << place.number())
-    }
+    pub const ALL: Places = Places(u32::MAX);
 
     // Whether the place is in the set.
     pub fn contains(self, place: Place) -> bool
-        ensures { result ≡ bit self.0 place.seat }
+        ensures { result ≡ bit self.0 place.number }
     {
-        (self.0 >> place.number()) % 2 == 1
+        (self.0 >> u8::from(place)) % 2 == 1
     }
 
     // The places but that one.
+    #[tactic(auto, using(crate::proofs::Bits::bit_without))]
     pub fn without(self, place: Place) -> Places
-        ensures { bit result.0 ≡ bit self.0 ∖ nat_eq place.seat }
+        ensures { bit result.0 ≡ bit self.0 ∖ nat_eq place.number }
     {
-        Places(self.0 & !Places::only(place).0)
-    }
-
-    // The number of the first place, or 32 where there is none.
-    fn first(self) -> u32
-        ensures { result ≡ count_trailing_zeros 32 self.0 }
-    {
-        u32::trailing_zeros(self.0)
+        Places(self.0 & !(1 << u8::from(place)))
     }
 
     // The first place that is in both.
+    #[tactic(auto, using(crate::proofs::Bits::none_common, crate::proofs::Bits::first_is_common))]
     pub fn first_common(self, other: Places) -> Option<Place>
         ensures { MatchOption result ((p : ℕ) → p < places → common self.0 other.0 p ≡ false)
-            (λ place. FirstCommon self.0 other.0 place.seat) }
+            (λ place. FirstCommon self.0 other.0 place.number) }
     {
-        Place::new(Places(self.0 & other.0).first())
+        Place::try_from((self.0 & other.0).trailing_zeros()).ok()
     }
 }

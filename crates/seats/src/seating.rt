@@ -1,9 +1,9 @@
 // A seating: who holds each place, and how one application more is let in.
-ghost use Rattle.std.specs.Prelude.{◌≡◌, None, MatchBool, slice_index_or};
+ghost use Rattle.std.specs.Prelude.{◌≡◌, None, MatchOption, slice_index_or};
 ghost use Rattle.matroid.specs.Sets.{◌∉◌, add};
 ghost use Rattle.seats.specs.Bids.{Unseatable};
 ghost use Rattle.seats.specs.Seatings.{seated, Proper};
-ghost use Rattle.seats.specs.Vacancies.{GaveWay, LetIn, Searched, Unseated, Vacant};
+ghost use Rattle.seats.specs.Vacancies.{LetIn, Searched, Vacant};
 
 use super::places::Places;
 use parts::numbers::{APPLICATIONS, Application, PLACES, Place};
@@ -26,66 +26,58 @@ impl Seats {
 
     // Who holds the place.
     pub fn holder(&self, place: Place) -> Option<Application>
-        ensures { result ≡ slice_index_or self.now.holders place.seat None }
+        ensures { result ≡ slice_index_or self.now.holders place.number None }
     {
-        self.holders[place.index()]
+        self.holders[usize::from(place)]
     }
 
+    // The application seated beside those seated, who move where that makes room; none if there is no
+    // way to seat them all.
+    #[tactic(auto, using(crate::proofs::Trials::no_room))]
+    pub(crate) fn with(&self, masks: &[Places; APPLICATIONS], asked: Application) -> Option<Seats>
+        requires { (Proper masks.now self.now.holders) × (asked.0 ∉ seated self.now.holders) }
+        ensures { MatchOption result (Unseatable masks.now (add (seated self.now.holders) asked.0))
+            (λ seats. LetIn masks.now self.now.holders seats.holders asked.0) }
+    {
+        let mut search = Search {
+            masks,
+            holders: self.holders,
+            untried: Places::ALL,
+        };
+        search.seat(asked).then_some(Seats {
+            holders: search.holders,
+        })
+    }
+}
+
+// The search for a place: who holds each place so far, and the places that have not been tried.
+#[derive(Drop)]
+struct Search<'a> {
+    masks: &'a [Places; APPLICATIONS],
+    holders: [Option<Application>; PLACES],
+    untried: Places,
+}
+
+impl Search<'_> {
     // Gives the application one of the untried places that it is allowed, moving holders to other
     // places where that makes room; false if there is no way. Each place is tried at most once: its
-    // holder gives way and looks for another, and gets the place back if there is none.
-    #[cycle(give_way_seat)]
-    fn seat(
-        &mut self,
-        masks: &[Places; APPLICATIONS],
-        untried: &mut Places,
-        asked: Application,
-    ) -> bool
-        requires { (Proper masks.now self.old.holders) × (asked.0 ∉ seated self.old.holders) }
-        ensures { Searched masks.now self.old.holders self.new.holders
-            untried.old.0 untried.new.0 asked.0 result }
+    // holder looks for another, and gets the place back if there is none.
+    fn seat(&mut self, asked: Application) -> bool
+        requires { (Proper self.old.masks.now self.old.holders) × (asked.0 ∉ seated self.old.holders) }
+        ensures { (self.new.masks.now ≡ self.old.masks.now) × Searched self.old.masks.now self.old.holders self.new.holders
+            self.old.untried.0 self.new.untried.0 asked.0 result }
     {
-        let wanted = masks[asked.index()];
-        while let Some(place) = wanted.first_common(*untried) {
-            *untried = untried.without(place);
-            let spot = place.index();
-            let former = self.holders[spot];
-            self.holders[spot] = Some(asked);
-            if self.give_way(masks, untried, former) {
-                return true;
+        let wanted = self.masks[usize::from(asked)];
+        // a `while`, since the calls within try places too, which no iterator would leave out
+        while let Some(place) = wanted.first_common(self.untried) {
+            self.untried = self.untried.without(place);
+            let spot = usize::from(place);
+            match self.holders[spot].replace(asked) {
+                None => return true,
+                Some(former) if self.seat(former) => return true,
+                former => self.holders[spot] = former,
             }
-            self.holders[spot] = former;
         }
         false
-    }
-
-    // Moves whoever held a place, if anybody did, to another; false if there is none.
-    #[cycle(give_way_seat)]
-    fn give_way(
-        &mut self,
-        masks: &[Places; APPLICATIONS],
-        untried: &mut Places,
-        former: Option<Application>,
-    ) -> bool
-        requires { (Proper masks.now self.old.holders) × (Unseated self.old.holders former) }
-        ensures { GaveWay masks.now former self.old.holders self.new.holders
-            untried.old.0 untried.new.0 result }
-    {
-        match former {
-            None => true,
-            Some(holder) => self.seat(masks, untried, holder),
-        }
-    }
-
-    // Seats the application beside those seated, moving them where that makes room; false if there is
-    // no way to seat them all.
-    pub(crate) fn let_in(&mut self, masks: &[Places; APPLICATIONS], asked: Application) -> bool
-        requires { (Proper masks.now self.old.holders) × (asked.0 ∉ seated self.old.holders) }
-        ensures { MatchBool result (LetIn masks.now self.old.holders self.new.holders asked.0)
-            ((self.new.holders ≡ self.old.holders)
-            × Unseatable masks.now (add (seated self.old.holders) asked.0)) }
-    {
-        let mut untried = Places::all();
-        self.seat(masks, &mut untried, asked)
     }
 }

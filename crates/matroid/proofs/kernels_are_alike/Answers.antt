@@ -1,5 +1,5 @@
 use Rattle.matroid.proofs.kernels_are_alike.Goals as goal
-use Rattle.matroid.proofs.Kernels.{kernels_are_alike_lem}
+use Rattle.matroid.proofs.Kernels.{every_kernel_is_alike}
 
 pub returns : goal.returns
-returns c = kernels_are_alike_lem
+returns c = every_kernel_is_alike

@@ -12,7 +12,7 @@ impl QuotaTree {
     pub fn new() -> QuotaTree
         ensures { result.quotas ≡ first_quotas }
     {
-        let groups = [Quota::at_start(); GROUPS];
+        let groups = [Quota::START; GROUPS];
         let homes = [Group::ROOT; APPLICATIONS];
         QuotaTree {
             quotas: Quotas { groups, homes },
@@ -22,22 +22,22 @@ impl QuotaTree {
     pub fn cap(&self, group: Group) -> u16
         ensures { result ≡ cap_of self.now.quotas group.number }
     {
-        self.quotas.groups[group.index()].cap
+        u16::from(self.quotas.groups[usize::from(group)].cap)
     }
 
     // The group directly above; group 0 has none.
     pub fn parent(&self, group: Group) -> Option<Group>
         ensures { NextUp (parent_of self.now.quotas) group.number result }
     {
-        if group.number() == 0 {
+        if group == Group::ROOT {
             return None;
         }
-        Some(self.quotas.groups[group.index()].parent)
+        Some(self.quotas.groups[usize::from(group)].parent)
     }
 
     pub fn home(&self, application: Application) -> Group
         ensures { result.number ≡ home_of self.now.quotas application.0 }
     {
-        self.quotas.homes[application.index()]
+        self.quotas.homes[usize::from(application)]
     }
 }

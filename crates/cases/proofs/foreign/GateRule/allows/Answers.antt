@@ -1,6 +1,7 @@
 use Rattle.std.proofs.Common.{◌≡◌, ℕ, ◌<◌, Bool, true, false, sym, refl, ◌∙◌, arith}
 use Rattle.std.proofs.lemmas.Bool.{false≢true, ne_eqb}
-use Rattle.matroid.specs.Sets.{Set, ∅, add, card, members}
+use Rattle.matroid.specs.Sets.{Set, ∅, add, card}
+use Rattle.parts.specs.Marks.{members}
 use Rattle.matroid.proofs.Cards.{add_here, card_less}
 use Rattle.parts.specs.Limits.{applications}
 use Rattle.cases.specs.Foreign.{let_through}

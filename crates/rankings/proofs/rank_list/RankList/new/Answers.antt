@@ -1,26 +1,19 @@
--- Each turn puts its number into both rows, and so the rows belong together at the end.
-use Rattle.std.proofs.Common.{get_or, set, ap, ◌∙◌, arith, length-set}
-use Rattle.std.proofs.lemmas.List.Edits.{fill_by_more}
-use Rattle.rankings.specs.RanksLemmas.{counted_paired}
+-- Each call of a closure gave its number, and so the rows undo one another.
+use Rattle.std.proofs.Common.{◌≡◌, ℕ, ◌<◌, rules}
+use Rattle.parts.specs.Limits.{applications}
+use Rattle.rankings.specs.Holders.{holder_of}
+use Rattle.rankings.specs.Ranks.{rank_of}
 use Rattle.rankings.proofs.rank_list.RankList.new.Goals as goal
 
-pub loop-number-preserved : goal.loop-number-preserved
-loop-number-preserved c =
-    let ranks = c.loop-number.ranks in
-    let holders = c.loop-number.holders in
-    let number = c.loop-number.number in
-    let inv = c.loop-number.invariant in (
-      simp (length-set, inv.0),
-      simp (length-set, inv.1),
-      λ k l. ap (λ n. get_or (set ranks number n) k 0) (c.first_rank.ensures ∙ c.new-application.ensures)
-          ∙ fill_by_more (λ j. j) ranks number 0 (omega arith) inv.2 k l,
-      λ k l. ap (λ n. get_or (set holders number (record { 0 = n })) k (record { 0 = 0 })) c.new-application.ensures
-          ∙ fill_by_more (λ j. record { 0 = j }) holders number (record { 0 = 0 }) (omega arith) inv.3 k l,
-    )
-
 pub invariant_of-result : goal.invariant_of-result
-invariant_of-result c = record {
-  paired = counted_paired _ _ c.loop-number.invariant.0 c.loop-number.invariant.1
-      (λ k l. c.loop-number.invariant.2 k (omega arith))
-      (λ k l. ap (λ a. a.0) (c.loop-number.invariant.3 k (omega arith)));
-}
+invariant_of-result c =
+    let ranks = c.from_fn.ensures.items in
+    let holders = c.from_fn-2.ensures.items in
+    let rank : (k : ℕ) → k < applications → rank_of c.from_fn.result k ≡ k = λ k l. search (rules, ranks.at k 0 l) in
+    let holder : (k : ℕ) → k < applications → holder_of c.from_fn-2.result k ≡ k = λ k l. search (rules, holders.at k (record { 0 = 0 }) l) in
+    record {
+      paired = (ranks.long, holders.long, λ k l. rw (rank k l) l, λ k l. rw (rank k l) (holder k l), λ k l. rw (holder k l) (rank k l));
+    }
+
+pub returns : goal.returns
+returns c = λ k l. search (rules, c.from_fn.ensures.items.at k 0 l)

@@ -1,10 +1,11 @@
-use Rattle.std.proofs.Common.{ℤ, arith, w16, to_z, of_z}
-use Rattle.std.proofs.lemmas.Int.{ints}
-use Rattle.parts.specs.Limits.{applications}
-use Rattle.rankings.specs.Scored.{all_within}
+use Rattle.std.proofs.Common.{ℕ, ℤ, pos, negsuc, ◌≤ℤ◌, replicate, rules}
+use Rattle.std.proofs.lemmas.Grind.{common_steps}
+use Rattle.rankings.specs.Scores.{WithinThousand}
 use Rattle.rankings.proofs.scores.Scores.new.Goals as goal
 
+-- one score within the limits, for every application
+all_within : (n : ℕ) (score : ℤ) → negsuc 999 ≤ℤ score → score ≤ℤ pos 1000 → WithinThousand (replicate n score)
+all_within n score low high = search (rules, common_steps)
+
 pub invariant_of-result : goal.invariant_of-result
-invariant_of-result c =
-    let score : ℤ = to_z w16 (of_z w16 c.start_score.result) in
-    record { within = all_within applications score (omega (arith, ints)) (omega (arith, ints)) }
+invariant_of-result c = search (rules, all_within)

@@ -1,39 +1,28 @@
-use Rattle.std.proofs.Common.{◌+◌, sym, refl, ap, ◌∙◌, subst, arith}
-use Rattle.matroid.specs.Sets.{members}
-use Rattle.parts.specs.Limits.{applications}
-use Rattle.parts.proofs.Rows.{marked_below}
-use Rattle.seats.specs.Seatings.{Seating}
-use Rattle.seats.proofs.Fronts.{front, front_all, front_none}
-use Rattle.seats.proofs.Seated.{next_crowded, next_seated, next_skipped, next_unseated}
+use Rattle.std.proofs.Common.{sym, arith}
+use Rattle.seats.proofs.Seated.{all_seated, next_crowded, next_seated, next_skipped, next_unseated, none_seated}
 use Rattle.seats.proofs.seat_bids.SeatBids.assignment.Goals as goal
-use Rattle.seats.proofs.seat_bids.SeatBids.assignment.Goals.{else-mark-via-then-mark+else-not-let_in, else-mark-via-else-mark}
+use Rattle.seats.proofs.seat_bids.SeatBids.assignment.Goals.{then-contains+in_ok-seats, else-contains}
 
-pub loop-c-init : goal.loop-c-init
-loop-c-init c = record {
-  proper = c.empty-seats.ensures.proper _;
-  all = c.empty-seats.ensures.nobody ∙ sym (front_none _);
-}
+pub loop-number-init : goal.loop-number-init
+loop-number-init c = none_seated _ _ _ c.empty-seats.ensures
 
-pub let_in-requires : goal.let_in-requires
-let_in-requires c = (c.loop-c.invariant.proper, next_unseated _ _ _ _ c.new.ensures _ c.loop-c.invariant)
+pub with-requires : goal.with-requires
+with-requires c = (c.loop-number.invariant.proper, next_unseated _ _ c.from-application.ensures c.loop-number.invariant)
 
-pub loop-c-preserved : goal.loop-c-preserved
-loop-c-preserved c =
-    let masks = c.args.self.now.masks in
-    let marks = members c.args.marked.now in
-    let at = c.loop-c.c in
-    elim c.else-mark.branch [
-      | else-mark-via-then-mark+else-not-let_in w ↦ subst (λ seats. Seating masks seats.holders (front marks (at + 1))) (sym w.seats-is)
-          (next_seated masks marks at _ w.new.ensures _ c.loop-c.invariant w.if-mark.true w.let_in.new.self.holders w.if-not-let_in.ensures)
-      | else-mark-via-else-mark w ↦ subst (λ seats. Seating masks seats.holders (front marks (at + 1))) (sym w.seats-is)
-          (next_skipped masks marks at at refl _ c.loop-c.invariant w.if-mark.false)
-    ]
+pub returns-in_err-seats : goal.returns-in_err-seats
+returns-in_err-seats c = rw c.from_residual.ensures
+    (next_crowded _ _ c.from-application.ensures c.loop-number.invariant (sym c.if-contains.ensures) c.in_err-seats.ensures)
 
-pub returns-then-not-let_in : goal.returns-then-not-let_in
-returns-then-not-let_in c = next_crowded _ _ _ _ c.new.ensures _ c.loop-c.invariant c.if-mark.true c.if-not-let_in.ensures.1
+pub loop-number-preserved : goal.loop-number-preserved
+loop-number-preserved c = elim c.if-contains.branch [
+  | then-contains+in_ok-seats w ↦ rw w.seats-is
+      (next_seated _ _ c.from-application.ensures c.loop-number.invariant (sym w.if-contains.ensures) w.in_ok-seats.ensures)
+  | else-contains w ↦ rw w.seats-is (next_skipped _ _ c.from-application.ensures c.loop-number.invariant (sym w.if-contains.ensures))
+]
 
-pub returns : goal.returns
-returns c =
-    let marks = members c.args.marked.now in
-    subst (Seating c.args.self.now.masks c.loop-c.seats.holders)
-    (ap (front marks) (omega arith) ∙ front_all marks applications (marked_below c.args.marked.now c.told-marked)) c.loop-c.invariant
+pub returns-after-contains : goal.returns-after-contains
+returns-after-contains c = all_seated c.args.marked.now c.loop-number.number (omega arith) (elim c.if-contains.branch [
+  | then-contains+in_ok-seats w ↦ rw w.seats-is
+      (next_seated _ _ c.from-application.ensures c.loop-number.invariant (sym w.if-contains.ensures) w.in_ok-seats.ensures)
+  | else-contains w ↦ rw w.seats-is (next_skipped _ _ c.from-application.ensures c.loop-number.invariant (sym w.if-contains.ensures))
+])
