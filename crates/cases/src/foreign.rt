@@ -1,5 +1,6 @@
 // Two parts of another author, a rule and a ranking. Nothing but the interfaces ties them to the
-// supplied parts, or to one another: each is written whole, as one who makes a part would write it.
+// supplied parts. Both are set by one switch; otherwise each is written whole, as one who makes a part
+// would write it.
 ghost use Rattle.std.specs.Prelude.{◌≡◌, true, false, if◌then◌else◌, Ok, Err, ◌==◌, nat_le};
 ghost use Rattle.std.proofs.Common.{rules};
 ghost use Rattle.parts.specs.Outcomes.{refusal_here};
@@ -14,7 +15,8 @@ use parts::ranking::Ranking;
 use parts::refusal::{Cause, WriteRefusal};
 use parts::rule::Rule;
 
-// The switch that a write sets: key 0 is the only one, and its value is 1 for on or 0 for off.
+// The switch that a write sets: key 0 is the only one, and its value is 1 for on or 0 for off. A switch is
+// a `bool` of std, which takes no conversion of our own.
 fn switch_from(key: u16, value: u32) -> Result<bool, WriteRefusal>
     ensures { result ≡ (if key == 0
         then (if nat_le value 1 then Ok (value == 1) else Err (refusal_here ValueAboveLimit key))
@@ -81,6 +83,7 @@ impl Rule for Gate {
     ghost matroid = { λ lets _. gate_matroid lets };
 
     // A set with the asked number in it has a member.
+    #[tactic(auto, using(crate::proofs::Gates::added_passes))]
     fn allows(&self, _marked: &Marks, _asked: Application) -> bool {
         self.is_open()
     }

@@ -51,25 +51,27 @@ pub(crate) fn marks(numbers: &[u8]) -> Marks {
     marked
 }
 
-fn refused(cause: Cause, depth: u16, key: u16) -> Result<(), WriteRefusal> {
-    Err(WriteRefusal { cause, depth, key })
-}
-
 // Takes one step. A failure names the part and the step.
 fn take_step<P: Part, Q: Question<P>>(
     rt: &impl Abort,
     part: &mut P,
     step: &Step<Q>,
-    (name, number): (&str, usize),
+    name: &str,
+    number: usize,
 ) {
     match step {
         Step::Accepts(key, value) => {
             assert_eq!(rt; part.write(*key, *value), Ok(()), "{name}, step {number}");
         }
         Step::Refuses(key, value, cause, depth, received) => {
+            let refusal = WriteRefusal {
+                cause: *cause,
+                depth: *depth,
+                key: *received,
+            };
             assert_eq!(rt;
                 part.write(*key, *value),
-                refused(*cause, *depth, *received),
+                Err(refusal),
                 "{name}, step {number}"
             );
         }
@@ -86,6 +88,6 @@ pub(crate) fn check<P: Part, Q: Question<P>>(
     steps: &[Step<Q>],
 ) {
     for (number, step) in steps.iter().enumerate() {
-        take_step(rt, part, step, (name, number));
+        take_step(rt, part, step, name, number);
     }
 }

@@ -11,7 +11,8 @@ use Rattle.matroid.proofs.Choosing.{preceding_add, preceding_all}
 use Rattle.matroid.proofs.Lasts.{asymmetric}
 use Rattle.parts.specs.Limits.{applications}
 use Rattle.parts.specs.declared.numbers.Application.{Application}
-use Rattle.clearing.specs.Orders.{number_at, InOrder}
+use Rattle.parts.specs.Rows.{number_at}
+use Rattle.clearing.specs.Orders.{InOrder}
 
 -- the applications before that place have been decided on, and none of the others is kept
 pub record Chosen (side : Side) (row : List Application) (offered kept : Set) (until : ℕ) : Type 0 where

@@ -16,15 +16,15 @@ use Rattle.matroid.specs.Matroids.{StrictOrder}
 use Rattle.matroid.proofs.Lasts.{asymmetric}
 use Rattle.parts.specs.Limits.{applications}
 use Rattle.parts.specs.declared.numbers.Application.{Application}
-use Rattle.clearing.specs.Orders.{number_at, Complete, InOrder}
+use Rattle.parts.specs.Rows.{number_at, AllByNumber}
+use Rattle.clearing.specs.Orders.{Complete, InOrder}
 
-pub by_number_complete : (row : List Application) → length row ≡ applications
-    → ((i : ℕ) → i < applications → number_at row i ≡ i) → Complete row
-by_number_complete row long same = record {
-  long = long;
-  below = λ i h. omega (arith, same i h);
-  once = λ i j h k equal. sym (same i h) ∙ equal ∙ same j k;
-  stands = λ x h. (x, h, same x h);
+pub by_number_complete : (row : List Application) → AllByNumber row → Complete row
+by_number_complete row all = record {
+  long = all.long;
+  below = λ i h. omega (arith, all.numbered i h);
+  once = λ i j h k equal. sym (all.numbered i h) ∙ equal ∙ all.numbered j k;
+  stands = λ x h. (x, h, all.numbered x h);
 }
 
 -- the default does not count inside the row

@@ -1,11 +1,8 @@
 -- Rows of all the applications, and rows in the order of a ranking. Assumes nothing.
-use Rattle.std.specs.Prelude.{◌≡◌, ℕ, ◌<◌, Bool, true, List, length, slice_index_or}
+use Rattle.std.specs.Prelude.{◌≡◌, ℕ, ◌<◌, Bool, true, List, length}
 use Rattle.parts.specs.Limits.{applications}
+use Rattle.parts.specs.Rows.{number_at}
 use Rattle.parts.specs.declared.numbers.Application.{Application}
-
--- the number of the application at a place of the row
-abbrev pub number_at : List Application → ℕ → ℕ
-number_at row place = (slice_index_or row place (record { 0 = 0 })).0
 
 -- every application stands in the row, each at one place
 pub record Complete (row : List Application) : Type 0 where

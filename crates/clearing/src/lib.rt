@@ -1,4 +1,4 @@
-// Choice, deferred acceptance, and the check of a list, for any two sides.
+// Choice and deferred acceptance for any two sides, and why a list is refused.
 #![tactic(auto)]
 
 pub mod choice;

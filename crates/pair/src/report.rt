@@ -3,7 +3,7 @@ use super::rounds::{Parts, Round};
 use clearing::deferred::clear;
 use itertools::Itertools;
 use parts::marks::Marks;
-use parts::numbers::{APPLICATIONS, Application, Group};
+use parts::numbers::{APPLICATIONS, Application, GROUPS, Group};
 use std::alloc::{AllocError, Global};
 
 // Clears the round and prints it.
@@ -25,7 +25,7 @@ pub(crate) fn show(rt: &HostRuntime, name: &str, round: &Round) -> anyhow::Resul
 // applications from the first to the last.
 fn show_side(rt: &HostRuntime, name: &str, side: &Parts, live: &Marks) -> anyhow::Result<()> {
     let heap = rt.alloc();
-    for group in (0..=u8::MAX).filter_map(|number| Group::try_from(u32::from(number)).ok()) {
+    for group in (0..GROUPS as u32).filter_map(|number| Group::try_from(number).ok()) {
         let cap = side.quotas.cap(group);
         if usize::from(cap) < APPLICATIONS {
             let homed = set_text(heap, &at_home(side, group, live))?;
@@ -34,7 +34,7 @@ fn show_side(rt: &HostRuntime, name: &str, side: &Parts, live: &Marks) -> anyhow
     }
     let ranked = (0..=u8::MAX)
         .map(|rank| side.ranks.holder(rank))
-        .filter(|one| live.contains(*one))
+        .filter(|application| live.contains(*application))
         .join(heap, ", ")?;
     println!(rt; "  Side {name} ranks {ranked}.")?;
     Ok(())
@@ -42,17 +42,18 @@ fn show_side(rt: &HostRuntime, name: &str, side: &Parts, live: &Marks) -> anyhow
 
 // The live applications whose home is the group.
 fn at_home(side: &Parts, group: Group, live: &Marks) -> Marks {
-    (0..=u8::MAX)
-        .map(Application::from)
-        .filter(|one| live.contains(*one) && side.quotas.home(*one) == group)
+    Application::all()
+        .into_iter()
+        .filter(|application| live.contains(*application)
+            && side.quotas.home(*application) == group)
         .fold(Marks::none(), |homed, next| homed.with(next))
 }
 
 // The marked numbers, rising, as a set.
 fn set_text(heap: Global, marks: &Marks) -> Result<String, AllocError> {
-    let members = (0..=u8::MAX)
-        .map(Application::from)
-        .filter(|one| marks.contains(*one))
+    let members = Application::all()
+        .into_iter()
+        .filter(|application| marks.contains(*application))
         .join(heap, ", ")?;
     format!(in heap; "{{{members}}}")
 }

@@ -63,7 +63,8 @@ fn write_all<P: Part>(part: &mut P, writes: &[Write]) -> Result<(), WriteRefusal
 }
 
 impl Parts {
-    pub fn side(&self) -> Side<'_, QuotaTree, RankList> {
+    // As `clear` takes it.
+    pub(crate) fn side(&self) -> Side<'_, QuotaTree, RankList> {
         Side {
             rule: &self.quotas,
             ranking: &self.ranks,

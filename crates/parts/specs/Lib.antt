@@ -1,7 +1,9 @@
+pub mod Conversions
 pub mod Laws
 pub mod Limits
 pub mod Marks
 pub mod Numbers
+pub mod Rows
 pub mod Outcomes
 pub mod Truncations
 pub mod TruncationsLemmas

@@ -1,10 +1,8 @@
 // What is proved of every part, whatever was written to it, and of a truncation over any rule. Each
-// function is called by its claim.
+// function is named by its claim; the first two do nothing, and their contracts are what is proved.
 ghost use Rattle.std.specs.Prelude.{Decides};
-ghost use Rattle.matroid.specs.Matroids.{Matroid, StrictOrder};
 ghost use Rattle.matroid.specs.Sets.{add};
-ghost use Rattle.parts.specs.Laws.{WithinTheCap};
-ghost use Rattle.parts.specs.Limits.{applications};
+ghost use Rattle.parts.specs.Laws.{AlwaysAMatroid, AlwaysAStrictOrder, WithinTheCap};
 ghost use Rattle.parts.specs.Marks.{members};
 
 use crate::marks::Marks;
@@ -13,14 +11,14 @@ use crate::ranking::Ranking;
 use crate::rule::Rule;
 use crate::truncation::Truncation;
 
-// The independent sets of a rule are those of a matroid.
-pub fn rules_are_matroids<R: Rule>(_rule: &R)
-    ensures { Matroid applications (R.independent (R.settings _rule.now)) }
+// The independent sets of every rule of that kind are those of a matroid.
+pub fn rules_are_matroids<R: Rule>()
+    ensures { AlwaysAMatroid R.settings R.independent }
 {}
 
-// A ranking is a strict order of all the applications.
-pub fn rankings_are_strict_orders<K: Ranking>(_ranking: &K)
-    ensures { StrictOrder applications (K.before (K.settings _ranking.now)) }
+// Every ranking of that kind is a strict order of all the applications.
+pub fn rankings_are_strict_orders<K: Ranking>()
+    ensures { AlwaysAStrictOrder K.settings K.before }
 {}
 
 // A set is independent exactly when it is so below and has no more members than the cap: the

@@ -1,5 +1,5 @@
-// What a part is: the numbers, rows of marks, the interfaces of a rule and of a ranking, and refused
-// writes; and the layer that works over any rule.
+// What a part is: the numbers, sets of applications, what every part does, what a rule and what a ranking
+// does beside, and refused writes; and the layer that works over any rule.
 #![tactic(auto)]
 
 pub mod laws;

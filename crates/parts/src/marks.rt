@@ -68,19 +68,20 @@ impl Marks {
         ensures { members result ≡ members self.now ∪ members other.now }
     {
         let mut row = self.row;
-        for (c, mark) in other.row.iter().enumerate() {
-            row[c] |= *mark;
+        for (place, mark) in other.row.iter().enumerate() {
+            row[place] |= *mark;
         }
         Marks::from(row)
     }
 
-    // The members of this set that the other has not.
+    // The members of this set that the other has not, by the same loop: one for both would take the
+    // operator as a closure, with a contract as long as either.
     pub fn difference(&self, other: &Marks) -> Marks
         ensures { members result ≡ members self.now ∖ members other.now }
     {
         let mut row = self.row;
-        for (c, mark) in other.row.iter().enumerate() {
-            row[c] &= !*mark;
+        for (place, mark) in other.row.iter().enumerate() {
+            row[place] &= !*mark;
         }
         Marks::from(row)
     }

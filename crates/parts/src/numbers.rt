@@ -1,10 +1,12 @@
-// Application, group and place numbers: each a byte in a type of its own, so that none stands in for another.
-ghost use Rattle.std.specs.Prelude.{◌≡◌, ◌<◌, ◌≤◌, MatchResult, Some, decimal, nat_le};
+// Application, group and place numbers, each a byte in a type of its own, so that none stands in for
+// another; and caps.
+ghost use Rattle.std.specs.Prelude.{◌≡◌, ◌<◌, Some, decimal, nat_le};
+ghost use Rattle.parts.specs.Conversions.{ConvertsBelow};
 ghost use Rattle.parts.specs.Limits.{applications};
 ghost use Rattle.parts.specs.declared.refusal.Cause.TheVariants.{UnusedKey, ValueAboveLimit};
 
 use crate::refusal::Cause;
-use std::fmt;
+use std::{array, fmt};
 
 // How many application numbers there are.
 pub const APPLICATIONS: usize = 256;
@@ -19,6 +21,17 @@ pub const PLACES: usize = 32;
 #[derive(Clone, Copy, PartialEq, Eq, PartialOrd, Ord, Debug)]
 pub struct Application(u8);
 
+impl Application {
+    ghost use Rattle.parts.specs.Rows.{AllByNumber};
+
+    // Every application, by number.
+    pub fn all() -> [Application; APPLICATIONS]
+        ensures { AllByNumber result }
+    {
+        array::from_fn(|number| Application::from(number as u8))
+    }
+}
+
 impl From<u8> for Application {
     ghost from_gives = { λ number application. application.0 ≡ number };
 
@@ -31,7 +44,7 @@ impl From<u8> for Application {
 impl TryFrom<u16> for Application {
     type Error = Cause;
 
-    ghost try_from_gives = { λ key result. MatchResult result (λ application. (key < applications) × (application.0 ≡ key)) (λ cause. (applications ≤ key) × (cause ≡ UnusedKey)) };
+    ghost try_from_gives = { ConvertsBelow applications UnusedKey (λ application. application.0) };
 
     fn try_from(key: u16) -> Result<Application, Cause> {
         u8::try_from(key)
@@ -86,7 +99,7 @@ impl Group {
 impl<const LIMIT: u8> TryFrom<u32> for Below<LIMIT> {
     type Error = Cause;
 
-    ghost try_from_gives = { λ number result. MatchResult result (λ below. (number < LIMIT) × (below.number ≡ number)) (λ cause. (LIMIT ≤ number) × (cause ≡ ValueAboveLimit)) };
+    ghost try_from_gives = { ConvertsBelow LIMIT ValueAboveLimit (λ below. below.number) };
 
     fn try_from(number: u32) -> Result<Below<LIMIT>, Cause> {
         if number < u32::from(LIMIT) {
@@ -124,7 +137,7 @@ impl<const LIMIT: u8> From<Below<LIMIT>> for usize {
     }
 }
 
-// How many applications a set may have at most, from none to all of them.
+// How many applications a set may have at most.
 #[derive(Clone, Copy, PartialEq, Eq, PartialOrd, Ord, Debug)]
 pub struct Cap(u16);
 
@@ -140,10 +153,19 @@ impl Cap {
     }
 }
 
+impl From<u16> for Cap {
+    ghost from_gives = { λ most cap. cap.0 ≡ most };
+
+    fn from(most: u16) -> Cap {
+        Cap(most)
+    }
+}
+
+// The cap that a written value sets.
 impl TryFrom<u32> for Cap {
     type Error = Cause;
 
-    ghost try_from_gives = { λ most result. MatchResult result (λ cap. (most ≤ 256) × (cap.0 ≡ most)) (λ cause. (256 < most) × (cause ≡ ValueAboveLimit)) };
+    ghost try_from_gives = { ConvertsBelow 257 ValueAboveLimit (λ cap. cap.0) };
 
     fn try_from(most: u32) -> Result<Cap, Cause> {
         if most > 256 {

@@ -1,8 +1,6 @@
 // The truncation: a layer over any rule that accepts no more than so many applications.
-ghost use Rattle.std.specs.Prelude.{◌≡◌, ◌≤◌, if◌then◌else◌, Ok, Err, nat_le};
-ghost use Rattle.parts.specs.Outcomes.{refusal_here};
+ghost use Rattle.std.specs.Prelude.{◌≡◌, ◌≤◌};
 ghost use Rattle.parts.specs.Truncations.{capped_independent, CappedSound, capped_written};
-ghost use Rattle.parts.specs.declared.refusal.Cause.TheVariants.{ValueAboveLimit};
 ghost use Rattle.parts.specs.TruncationsLemmas.{capped_written_sound};
 ghost use Rattle.matroid.proofs.Truncations.{truncation_matroid};
 ghost use Rattle.parts.specs.Limits.{applications};

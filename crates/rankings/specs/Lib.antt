@@ -3,3 +3,4 @@ pub mod Laws
 pub mod Ranks
 pub mod Scores
 pub mod RanksLemmas
+pub mod Scored

@@ -9,7 +9,6 @@ use parts::numbers::{APPLICATIONS, Application};
 use parts::part::Part;
 use parts::ranking::Ranking;
 use parts::refusal::{Cause, WriteRefusal};
-use std::array;
 
 // The rank of each application, and the application that has each rank: a row by application and a row by
 // rank, of which each undoes the other, so that an exchange need not look for the other application.
@@ -26,8 +25,8 @@ impl RankList {
         ensures { RankedByNumber result.ranks }
     {
         RankList {
-            ranks: array::from_fn(|number| number as u8),
-            holders: array::from_fn(|number| Application::from(number as u8)),
+            ranks: Application::all().map(u8::from),
+            holders: Application::all(),
         }
     }
 

@@ -3,7 +3,7 @@ ghost use Rattle.std.specs.Prelude.{◌≡◌, ◌<◌, ◌≤◌, pos, negsuc, 
 ghost use Rattle.rankings.specs.Scores.{first_scores, score_before, score_of, scores_written, WithinThousand};
 ghost use Rattle.std.proofs.Common.{rules};
 ghost use Rattle.std.proofs.lemmas.Grind.{common_steps};
-ghost use Rattle.std.proofs.lemmas.Int.{ints};
+ghost use Rattle.rankings.specs.Scored.{scores_order};
 
 use parts::numbers::{APPLICATIONS, Application};
 use parts::part::Part;
@@ -36,7 +36,8 @@ impl Scores {
     }
 }
 
-// The score that the value sets, if it is within the limit.
+// The score that the value sets, or the cause. A score is an `i16` of std, which takes no conversion of
+// our own.
 fn score_from(value: u32) -> Result<i16, Cause>
     ensures { MatchResult result (λ score. (value ≤ 2000) × (score ≡ pos value -ℤ pos 1000)) (λ cause. (2000 < value) × (cause ≡ Cause.ValueAboveLimit)) }
 {
@@ -76,7 +77,7 @@ impl Part for Scores {
 impl Ranking for Scores {
     ghost before = { score_before };
 
-    ghost order = { Prim.search (rules, ints) };
+    ghost order = { λ scores within. scores_order scores };
 
     // The larger score comes first, and of equal scores the smaller number.
     fn precedes(&self, first: Application, second: Application) -> bool {

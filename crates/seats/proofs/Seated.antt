@@ -9,6 +9,7 @@ use Rattle.matroid.proofs.Assignments.{assignable_by_assignment, assigned_part}
 use Rattle.matroid.proofs.Every.{latest, latest_passes, some_at}
 use Rattle.parts.specs.Limits.{applications, places}
 use Rattle.parts.specs.Marks.{members}
+use Rattle.parts.specs.Rows.{AllByNumber, number_at}
 use Rattle.parts.specs.declared.marks.Marks.{Marks}
 use Rattle.parts.specs.declared.numbers.Application.{Application}
 use Rattle.parts.proofs.Rows.{marked_below}
@@ -58,8 +59,15 @@ module _ (masks : List Places) (S : Set) where
   pub none_seated : (holders : List (Option Application)) → Vacant holders → Seating masks holders (front S 0)
   none_seated holders vacant = record { proper = vacant.proper masks; all = vacant.nobody ∙ sym (front_none S) }
 
-  -- the members of S below n are seated, and n is asked about next
-  module _ {n asked : ℕ} {holders : List (Option Application)} (next : asked ≡ n) (so_far : Seating masks holders (front S n)) where
+  -- the members of S below n are seated, and the application asked about next is the n-th of all
+  module _ {row : List Application} {n : ℕ} {holders : List (Option Application)} (all : AllByNumber row) (low : n < applications)
+      (so_far : Seating masks holders (front S n)) where
+    abbrev asked : ℕ
+    asked = number_at row n
+
+    next : asked ≡ n
+    next = all.numbered n low
+
     pub next_unseated : asked ∉ seated holders
     next_unseated = ap (λ U. U asked) so_far.all ∙ ap (front S n) next ∙ front_lacks S n
 
@@ -78,7 +86,7 @@ module _ (masks : List Places) (S : Set) where
         (λ x h here. (h, (and_parts (S x) _ (sym (ap (λ U. U x) (with_next member)) ∙ here)).0)) assigned)
 
 -- with the members below the number of applications all are seated
-pub all_seated : {masks : List Places} {holders : List (Option Application)} (marks : Marks) (n : ℕ) → n + 1 ≡ applications
-    → Seating masks holders (front (members marks) (n + 1)) → Seating masks holders (members marks)
-all_seated {masks} {holders} marks n end seating = subst (Seating masks holders)
+pub all_seated : {masks : List Places} {holders : List (Option Application)} (marks : Marks) {n : ℕ} → n ≡ applications
+    → Seating masks holders (front (members marks) n) → Seating masks holders (members marks)
+all_seated {masks} {holders} marks {n} end seating = subst (Seating masks holders)
     (ap (front (members marks)) end ∙ front_all (members marks) applications (marked_below marks)) seating

@@ -1,6 +1,5 @@
 // A set of places.
-ghost use Rattle.std.specs.Prelude.{◌≡◌, ℕ, ◌-◌, ◌^◌, ◌<◌, false, MatchOption, nat_eq};
-ghost use Rattle.std.specs.Int.Count.{count_trailing_zeros};
+ghost use Rattle.std.specs.Prelude.{◌≡◌, ℕ, ◌<◌, false, MatchOption, nat_eq};
 ghost use Rattle.matroid.specs.Sets.{◌∖◌};
 ghost use Rattle.parts.specs.Limits.{places};
 ghost use Rattle.seats.specs.Places.{bit, common, FirstCommon};

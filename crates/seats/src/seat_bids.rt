@@ -47,8 +47,7 @@ impl SeatBids {
             (λ seats. Seating self.now.masks seats.holders (members marked.now)) }
     {
         let mut seats = Seats::empty();
-        for number in 0..=u8::MAX {
-            let application = Application::from(number);
+        for application in Application::all() {
             if marked.contains(application) {
                 seats = seats.with(&self.masks, application)?;
             }

@@ -41,12 +41,10 @@ impl Seats {
     {
         let mut search = Search {
             masks,
-            holders: self.holders,
+            seats: *self,
             untried: Places::ALL,
         };
-        search.seat(asked).then_some(Seats {
-            holders: search.holders,
-        })
+        search.seat(asked).then_some(search.seats)
     }
 }
 
@@ -54,7 +52,7 @@ impl Seats {
 #[derive(Drop)]
 struct Search<'a> {
     masks: &'a [Places; APPLICATIONS],
-    holders: [Option<Application>; PLACES],
+    seats: Seats,
     untried: Places,
 }
 
@@ -63,8 +61,8 @@ impl Search<'_> {
     // places where that makes room; false if there is no way. Each place is tried at most once: its
     // holder looks for another, and gets the place back if there is none.
     fn seat(&mut self, asked: Application) -> bool
-        requires { (Proper self.old.masks.now self.old.holders) × (asked.0 ∉ seated self.old.holders) }
-        ensures { (self.new.masks.now ≡ self.old.masks.now) × Searched self.old.masks.now self.old.holders self.new.holders
+        requires { (Proper self.old.masks.now self.old.seats.holders) × (asked.0 ∉ seated self.old.seats.holders) }
+        ensures { (self.new.masks.now ≡ self.old.masks.now) × Searched self.old.masks.now self.old.seats.holders self.new.seats.holders
             self.old.untried.0 self.new.untried.0 asked.0 result }
     {
         let wanted = self.masks[usize::from(asked)];
@@ -72,11 +70,14 @@ impl Search<'_> {
         while let Some(place) = wanted.first_common(self.untried) {
             self.untried = self.untried.without(place);
             let spot = usize::from(place);
-            match self.holders[spot].replace(asked) {
-                None => return true,
-                Some(former) if self.seat(former) => return true,
-                former => self.holders[spot] = former,
+            let former = self.seats.holders[spot].replace(asked);
+            let Some(holder) = former else {
+                return true;
+            };
+            if self.seat(holder) {
+                return true;
             }
+            self.seats.holders[spot] = former;
         }
         false
     }

@@ -10,7 +10,7 @@ use parts::refusal::Cause;
 pub(super) enum Setting {
     // how many members the group may have
     Cap(Group),
-    // the group above that one, which is not group 0
+    // the group above the named one; group 0 has none
     Parent(Group),
     // the group in which the application is at home
     Home(Application),
@@ -22,6 +22,7 @@ impl TryFrom<u16> for Setting {
     ghost try_from_gives = { λ key result. MatchResult result (StandsUnder key) (λ cause. Unused key × (cause ≡ UnusedKey)) };
 
     fn try_from(key: u16) -> Result<Setting, Cause> {
+        // in each range the number fits, so that no conversion here fails
         match key {
             0..=127 => Group::try_from(u32::from(key)).map(Setting::Cap),
             129..=255 => Group::try_from(u32::from(key - 128)).map(Setting::Parent),

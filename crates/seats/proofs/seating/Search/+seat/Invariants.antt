@@ -9,7 +9,7 @@ abbrev pub decreases-seat : goal.decreases-seat
 decreases-seat l = card places (bit l.self.now.untried.0)
 
 abbrev pub invariant-loop-place : goal.invariant-loop-place
-invariant-loop-place l = Underway l.initial.self.masks.now l.self.masks.now l.initial.self.holders l.self.holders
+invariant-loop-place l = Underway l.initial.self.masks.now l.self.masks.now l.initial.self.seats.holders l.self.seats.holders
     l.initial.self.untried.0 l.self.untried.0
 
 abbrev pub decreases-loop-place : goal.decreases-loop-place
