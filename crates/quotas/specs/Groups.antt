@@ -1,6 +1,6 @@
 -- Groups are told apart by their numbers, a quota tree starts as it should, and a write keeps parents
 -- smaller. Assumes nothing.
-use Rattle.std.specs.Prelude.{◌≡◌, ℕ, ◌<◌, List, length, get_or, replicate, IfOk, slice_set}
+use Rattle.std.specs.Prelude.{◌≡◌, ℕ, ◌<◌, List, length, get_or, replicate, IfOk, slice_index_or, slice_set}
 use Rattle.std.proofs.Common.{ap₂, arith}
 use mathlib.Core.HLevel.{is_prop→PathP}
 use Rattle.std.proofs.Math.Bridge.{le_prop}
@@ -30,9 +30,14 @@ abbrev parent_in : List Quota → ℕ → ℕ
 parent_in table g = (get_or table g first_quota).parent.number
 
 -- the record that stands at a group has a smaller parent
-pub rooted_at : (table : List Quota) (g : ℕ) (any : Quota) → Rooted (parent_in table) → g < length table → 0 < g
+pub rooted_at : (table : List Quota) (g : ℕ) (old : Quota) → Rooted (parent_in table) → old ≡ slice_index_or table g first_quota
+    → 0 < g → old.parent.number < g
+rooted_at table g old rooted is above = rw is (rooted g above)
+
+-- within the table that is so whatever stands for a record past its end
+pub rooted_within : (table : List Quota) (g : ℕ) (any : Quota) → Rooted (parent_in table) → g < length table → 0 < g
     → (get_or table g any).parent.number < g
-rooted_at table g any rooted within above = rw (get_or_default table g any first_quota within) (rooted g above)
+rooted_within table g any rooted within = rooted_at table g (get_or table g any) rooted (get_or_default table g any first_quota within)
 
 -- a table of smaller parents, with a record for one group whose parent is smaller too
 pub rooted_set : (table : List Quota) (g : ℕ) (new : Quota) → Rooted (parent_in table)
@@ -59,4 +64,4 @@ KeepsRooted outcome = IfOk outcome (λ new. Rooted (parent_of new))
 
 -- an accepted write keeps parents smaller
 pub written_rooted : (q : Quotas) (key value : ℕ) → Rooted (parent_of q) → KeepsRooted (quotas_written q key value)
-written_rooted q key value rooted = grind (arith, rooted_set, rooted_at, number_again)
+written_rooted q key value rooted = grind (arith, rooted_set, rooted_within, number_again)
