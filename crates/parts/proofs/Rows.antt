@@ -1,11 +1,9 @@
 -- Rows of marks, one for each application, as sets. Assumes nothing.
-use Rattle.std.proofs.Common.{◌≡◌, ℕ, suc, zero, ◌+◌, ◌<◌, ◌≤◌, Bool, false, List, length, get_or, replicate, take, sym, refl, ap, ◌∙◌, inl, inr, arith, cond, add-one}
+use Rattle.std.proofs.Common.{◌≡◌, ℕ, ◌<◌, ◌≤◌, false, length, get_or, replicate, sym, ap, ◌∙◌, inl, inr, arith}
 use mathlib.Core.Path.{fun_ext}
-use Rattle.std.specs.List.{count_by}
-use Rattle.std.proofs.lemmas.List.{ext_get_or, get_or_past, get_or-replicate, length-replicate, take_all}
-use Rattle.std.proofs.lemmas.List.Sums.{sum_by_more}
+use Rattle.std.proofs.lemmas.List.{ext_get_or, get_or_past, get_or-replicate, length-replicate}
 use Rattle.std.proofs.lemmas.Bool.{both_ways, cases_lt}
-use Rattle.matroid.specs.Sets.{Set, ◌∉◌, ∅, Below, card}
+use Rattle.matroid.specs.Sets.{Set, ◌∉◌, ∅, Below}
 use Rattle.parts.specs.Limits.{applications}
 use Rattle.parts.specs.Marks.{members}
 use Rattle.parts.specs.declared.marks.Marks.{Marks}
@@ -35,19 +33,3 @@ no_members marks n none = fun_ext (λ x. ap (λ row. get_or row x false) none �
 -- rows that stand for one set are equal
 pub same_row : (a b : Marks) → members a ≡ members b → a.row ≡ b.row
 same_row a b same = ext_get_or false a.row b.row (a.long ∙ sym b.long) (λ x h. ap (λ S. S x) same)
-
--- the marks before a place are as many as the members below it
-marks_before : (row : List Bool) (n : ℕ) → n ≤ length row → count_by (λ mark. mark) (take n row) ≡ card n (λ x. get_or row x false)
-unfolding card
-marks_before row zero within = refl
-marks_before row (suc n) within =
-    let before = marks_before row n (omega arith) in
-    let more = sum_by_more (λ mark. cond mark 1 0) row n false (omega arith) in
-    ap (λ k. count_by (λ mark. mark) (take k row)) (sym (add-one n))
-    ∙ more ∙ ap (λ k. k + cond (get_or row n false) 1 0) before
-
--- the marks of a row are as many as its members
-pub marks_counted : (marks : Marks) → count_by (λ (mark : Bool). mark) marks.row ≡ card applications (members marks)
-marks_counted marks =
-    ap (count_by (λ (mark : Bool). mark)) (sym (take_all applications marks.row (omega (arith, marks.long))))
-    ∙ marks_before marks.row applications (omega (arith, marks.long))

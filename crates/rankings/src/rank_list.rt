@@ -9,6 +9,7 @@ use parts::numbers::{APPLICATIONS, Application};
 use parts::part::Part;
 use parts::ranking::Ranking;
 use parts::refusal::{Cause, WriteRefusal};
+use std::array;
 
 // The rank of each application, and the application that has each rank: a row by application and a row by
 // rank, of which each undoes the other, so that an exchange need not look for the other application.
@@ -25,7 +26,7 @@ impl RankList {
         ensures { RankedByNumber result.ranks }
     {
         RankList {
-            ranks: Application::all().map(u8::from),
+            ranks: array::from_fn(|number| number as u8),
             holders: Application::all(),
         }
     }
@@ -45,14 +46,17 @@ impl RankList {
     }
 
     // Gives the application the rank, and its former rank to the application that had this one.
+    // Four writes, since std's `swap` first looks which of its two places is the smaller, and that takes longer.
     fn exchange(&mut self, application: Application, rank: u8)
         ensures { self.new.ranks ≡ exchanged self.old.ranks application.0 rank }
     {
         let former = self.rank(application);
         let other = self.holder(rank);
-        self.ranks
-            .swap(usize::from(application), usize::from(other));
-        self.holders.swap(usize::from(former), usize::from(rank));
+        let (own, taken) = (usize::from(application), usize::from(rank));
+        self.ranks[own] = rank;
+        self.ranks[usize::from(other)] = former;
+        self.holders[taken] = application;
+        self.holders[usize::from(former)] = other;
     }
 }
 

@@ -9,7 +9,7 @@ ghost use Rattle.parts.specs.Marks.{members};
 ghost use Rattle.std.proofs.Common.{rules};
 
 use super::places::Places;
-use super::seating::Seats;
+use super::seating::{Search, Seats};
 use parts::marks::Marks;
 use parts::numbers::{APPLICATIONS, Application};
 use parts::part::Part;
@@ -46,13 +46,13 @@ impl SeatBids {
         ensures { MatchOption result (Unseatable self.now.masks (members marked.now))
             (λ seats. Seating self.now.masks seats.holders (members marked.now)) }
     {
-        let mut seats = Seats::empty();
-        for application in Application::all() {
+        let mut search = Search::over(&self.masks);
+        for &application in &Application::all() {
             if marked.contains(application) {
-                seats = seats.with(&self.masks, application)?;
+                search.let_in(application)?;
             }
         }
-        Some(seats)
+        Some(search.seats)
     }
 }
 

@@ -30,33 +30,43 @@ impl Seats {
     {
         self.holders[usize::from(place)]
     }
-
-    // The application seated beside those seated, who move where that makes room; none if there is no
-    // way to seat them all.
-    #[tactic(auto, using(crate::proofs::Trials::no_room))]
-    pub(crate) fn with(&self, masks: &[Places; APPLICATIONS], asked: Application) -> Option<Seats>
-        requires { (Proper masks.now self.now.holders) × (asked.0 ∉ seated self.now.holders) }
-        ensures { MatchOption result (Unseatable masks.now (add (seated self.now.holders) asked.0))
-            (λ seats. LetIn masks.now self.now.holders seats.holders asked.0) }
-    {
-        let mut search = Search {
-            masks,
-            seats: *self,
-            untried: Places::ALL,
-        };
-        search.seat(asked).then_some(search.seats)
-    }
 }
 
-// The search for a place: who holds each place so far, and the places that have not been tried.
+// The search for places: who holds each so far, and which have not been tried for the application that
+// looks for one. It seats one application after the other in place, since a copy of the holders for each
+// takes longer than most searches.
 #[derive(Drop)]
-struct Search<'a> {
+pub(crate) struct Search<'a> {
     masks: &'a [Places; APPLICATIONS],
-    seats: Seats,
+    pub(crate) seats: Seats,
     untried: Places,
 }
 
-impl Search<'_> {
+impl<'a> Search<'a> {
+    // Nobody is seated yet.
+    pub(crate) fn over(masks: &'a [Places; APPLICATIONS]) -> Search<'a>
+        ensures { (result.masks.now ≡ masks.now) × Vacant result.seats.holders }
+    {
+        Search {
+            masks,
+            seats: Seats::empty(),
+            untried: Places::ALL,
+        }
+    }
+
+    // Seats the application beside those seated, who move where that makes room; none if there is no
+    // way to seat them all.
+    #[tactic(auto, using(crate::proofs::Trials::no_room))]
+    pub(crate) fn let_in(&mut self, asked: Application) -> Option<()>
+        requires { (Proper self.old.masks.now self.old.seats.holders) × (asked.0 ∉ seated self.old.seats.holders) }
+        ensures { (self.new.masks.now ≡ self.old.masks.now) × MatchOption result
+            ((self.new.seats.holders ≡ self.old.seats.holders) × Unseatable self.old.masks.now (add (seated self.old.seats.holders) asked.0))
+            (λ _. LetIn self.old.masks.now self.old.seats.holders self.new.seats.holders asked.0) }
+    {
+        self.untried = Places::ALL;
+        self.seat(asked).then_some(())
+    }
+
     // Gives the application one of the untried places that it is allowed, moving holders to other
     // places where that makes room; false if there is no way. Each place is tried at most once: its
     // holder looks for another, and gets the place back if there is none.

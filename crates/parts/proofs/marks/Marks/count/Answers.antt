@@ -1,9 +1,13 @@
-use Rattle.std.proofs.Common.{◌≡◌, Bool, rules, ◌∙◌}
-use Rattle.std.specs.List.{count_by}
-use Rattle.parts.proofs.Rows.{marks_counted}
+use Rattle.std.proofs.Common.{◌+◌, sym, arith}
+use Rattle.matroid.proofs.Cards.{card_bound, card_more, card_none}
+use Rattle.parts.specs.Marks.{members}
 use Rattle.parts.proofs.marks.Marks.count.Goals as goal
 
-pub returns : goal.returns
-returns c =
-    let counted : c.count.result ≡ count_by (λ (mark : Bool). mark) c.args.self.now.row = search rules in
-    counted ∙ marks_counted c.args.self.now
+pub loop-mark-init : goal.loop-mark-init
+loop-mark-init c = sym (card_none _)
+
+pub loop-mark-preserved : goal.loop-mark-preserved
+loop-mark-preserved c = grind (arith, card_more c.loop-mark.mark-index (members c.args.self.now), c.loop-mark.invariant, c.from-count.ensures)
+
+pub overflow_add-count : goal.overflow_add-count
+overflow_add-count c = omega (arith, loop-mark-preserved c, card_bound (c.loop-mark.mark-index + 1) (members c.args.self.now), c.args.self.now.long)
