@@ -64,7 +64,7 @@ module _ (n : ℕ) (one two : Side) (lawful_one : Lawful n one) (lawful_two : La
       (choice_from_a_part n two lawful_two (R₀ ∪ P₀) (R ∪ P) turn₀.kept turn.kept (shown_again turn₀ turn stays)
       (λ y k. below y (shown_live turn part y k)) turn₀.keeps turn.keeps x shown kept)))
 
-  struck_grows : {turns : ℕ} {struck offered struck' : Set} → Run one two live turns struck
+  pub struck_grows : {turns : ℕ} {struck offered struck' : Set} → Run one two live turns struck
       → Turn one two live struck offered struck' → struck ⊆ struck'
   struck_grows start turn x h = absurd (false≢true h)
   struck_grows (next earlier run turn₀ new) turn x h =
