@@ -1,10 +1,12 @@
 // Clearings with parts of another author on a side, worked out turn by turn from the rule book.
+use super::both::GateAndOrder;
 use super::foreign::{ByNumber, Gate};
 use super::steps::Step::Accepts;
 use super::steps::{Allows, Step, check, marks};
 use clearing::deferred::clear;
 use clearing::side::Side;
-use parts::part::Part;
+use parts::numbers::Application;
+use parts::part::{AsRanking, AsRule, Part};
 use parts::ranking::Ranking;
 use parts::refusal::WriteRefusal;
 use parts::rule::Rule;
@@ -176,4 +178,42 @@ fn seats_by_the_larger_number(rt: HostRuntime) -> Result<(), Fail> {
     };
     check_clearing(&rt, &one, &two, &expected);
     Ok(())
+}
+
+// One value is the rule of side one and the ranking of both sides. Its order is made to fall, and its gate
+// stays open: side one offers {0, 1, 2}, side two takes one, the last, and strikes {0, 1}; in turn 2 side one
+// offers {2}. Then its gate is closed, and its order goes on falling: side one offers nothing.
+#[test]
+fn one_value_in_both_roles(rt: HostRuntime) -> Result<(), Fail> {
+    let mut both = GateAndOrder::new();
+    let two = one_at_most()?;
+    Part::<AsRanking>::write(&mut both, 0, 1)?;
+    check_roles(&rt, &both, &two, &[2], 2);
+    Part::<AsRule>::write(&mut both, 0, 0)?;
+    check_roles(&rt, &both, &two, &[], 1);
+    assert!(rt; both.precedes(Application::from(1), Application::from(0)));
+    Ok(())
+}
+
+fn check_roles(
+    rt: &impl Abort,
+    both: &GateAndOrder,
+    two: &Truncation<QuotaTree>,
+    list: &'static [u8],
+    turns: u16,
+) {
+    let one = Side {
+        rule: both,
+        ranking: both,
+    };
+    let two = Side {
+        rule: two,
+        ranking: both,
+    };
+    let expected = Expected {
+        live: &[0, 1, 2],
+        list,
+        turns,
+    };
+    check_clearing(rt, &one, &two, &expected);
 }

@@ -10,7 +10,7 @@ ghost use Rattle.cases.specs.Gates.{gate_matroid};
 
 use parts::marks::Marks;
 use parts::numbers::Application;
-use parts::part::Part;
+use parts::part::{AsRanking, AsRule, Part};
 use parts::ranking::Ranking;
 use parts::refusal::{Cause, WriteRefusal};
 use parts::rule::Rule;
@@ -53,7 +53,7 @@ impl Gate {
     }
 }
 
-impl Part for Gate {
+impl Part<AsRule> for Gate {
     // whether the gate is open
     type Settings = bool;
 
@@ -111,7 +111,7 @@ impl ByNumber {
     }
 }
 
-impl Part for ByNumber {
+impl Part<AsRanking> for ByNumber {
     // whether the order is falling
     type Settings = bool;
 

@@ -1,6 +1,8 @@
-// Cases for each supplied part, worked out from the rule book, and two parts of another author.
+// Cases for each supplied part, worked out from the rule book, and parts of another author: a rule, a
+// ranking, and one type that is both.
 #![tactic(auto)]
 
+pub mod both;
 #[cfg(test)]
 mod by_number;
 #[cfg(test)]

@@ -8,7 +8,7 @@ use parts::rule::Rule;
 use std::process::Abort;
 
 // A question that a part answers by yes or no.
-pub(crate) trait Question<P: Part> {
+pub(crate) trait Question<P> {
     fn answer(&self, part: &P) -> bool;
 }
 
@@ -52,7 +52,7 @@ pub(crate) fn marks(numbers: &[u8]) -> Marks {
 }
 
 // Takes one step. A failure names the part and the step.
-fn take_step<P: Part, Q: Question<P>>(
+fn take_step<Role, P: Part<Role>, Q: Question<P>>(
     rt: &impl Abort,
     part: &mut P,
     step: &Step<Q>,
@@ -81,7 +81,7 @@ fn take_step<P: Part, Q: Question<P>>(
 }
 
 // Takes the steps one after the other. A failure says which it was, counted from 0, and of which part.
-pub(crate) fn check<P: Part, Q: Question<P>>(
+pub(crate) fn check<Role, P: Part<Role>, Q: Question<P>>(
     rt: &impl Abort,
     name: &str,
     part: &mut P,

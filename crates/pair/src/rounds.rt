@@ -55,7 +55,7 @@ const PAIR_RANKS: [Write; 1] = [Write { key: 3, value: 2 }];
 const COLLEGE_RANKS: [Write; 2] = [Write { key: 2, value: 0 }, Write { key: 0, value: 1 }];
 
 // Puts each value under its key, up to the first that the part refuses.
-fn write_all<P: Part>(part: &mut P, writes: &[Write]) -> Result<(), WriteRefusal> {
+fn write_all<Role, P: Part<Role>>(part: &mut P, writes: &[Write]) -> Result<(), WriteRefusal> {
     for write in writes {
         part.write(write.key, write.value)?;
     }

@@ -139,7 +139,7 @@ impl<const LIMIT: u8> From<Below<LIMIT>> for usize {
 
 // How many applications a set may have at most.
 #[derive(Clone, Copy, PartialEq, Eq, PartialOrd, Ord, Debug)]
-pub struct Cap(u16);
+pub struct Cap(pub u16);
 
 impl Cap {
     // The cap that never binds.

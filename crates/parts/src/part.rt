@@ -4,7 +4,16 @@ ghost use Rattle.parts.specs.Outcomes.{Outcome, Follows};
 
 use crate::refusal::WriteRefusal;
 
-pub trait Part: Sized {
+// The part that a type is as a rule.
+#[derive(Clone, Copy)]
+pub struct AsRule;
+
+// The part that a type is as a ranking.
+#[derive(Clone, Copy)]
+pub struct AsRanking;
+
+// One type may be both, with settings and keys of its own in each role.
+pub trait Part<Role>: Sized {
     // The part's meaning. Each implementation chooses its kind.
     type Settings;
 

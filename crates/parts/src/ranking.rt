@@ -4,9 +4,9 @@ ghost use Rattle.matroid.specs.Matroids.{StrictOrder};
 ghost use Rattle.parts.specs.Limits.{applications};
 
 use crate::numbers::Application;
-use crate::part::Part;
+use crate::part::{AsRanking, Part};
 
-pub trait Ranking: Part {
+pub trait Ranking: Part<AsRanking> {
     // Which number precedes which.
     ghost before: { Self.Settings → ℕ → ℕ → Bool };
 

@@ -7,9 +7,9 @@ ghost use Rattle.parts.specs.Limits.{applications};
 
 use crate::marks::Marks;
 use crate::numbers::Application;
-use crate::part::Part;
+use crate::part::{AsRule, Part};
 
-pub trait Rule: Part {
+pub trait Rule: Part<AsRule> {
     // The sets that the rule can accept.
     ghost independent: { Self.Settings → Set → Bool };
 

@@ -7,7 +7,7 @@ ghost use Rattle.parts.specs.Limits.{applications};
 
 use crate::marks::Marks;
 use crate::numbers::{Application, Cap};
-use crate::part::Part;
+use crate::part::{AsRule, Part};
 use crate::refusal::WriteRefusal;
 use crate::rule::Rule;
 
@@ -52,7 +52,7 @@ impl<R: Rule> Truncation<R> {
     }
 }
 
-impl<R: Rule> Part for Truncation<R> {
+impl<R: Rule> Part<AsRule> for Truncation<R> {
     type Settings = Capped<R::Settings>;
 
     ghost settings = { λ t. record { «cap» = t.«cap»; below = R.settings t.below } };

@@ -6,7 +6,7 @@ ghost use Rattle.rankings.specs.RanksLemmas.{exchanged_distinct, paired_distinct
 ghost use Rattle.std.proofs.Common.{rules};
 
 use parts::numbers::{APPLICATIONS, Application};
-use parts::part::Part;
+use parts::part::{AsRanking, Part};
 use parts::ranking::Ranking;
 use parts::refusal::{Cause, WriteRefusal};
 use std::array;
@@ -60,7 +60,7 @@ impl RankList {
     }
 }
 
-impl Part for RankList {
+impl Part<AsRanking> for RankList {
     // the rank of each application
     type Settings = [u8; APPLICATIONS];
 

@@ -6,7 +6,7 @@ ghost use Rattle.std.proofs.lemmas.Grind.{common_steps};
 ghost use Rattle.rankings.specs.Scored.{scores_order};
 
 use parts::numbers::{APPLICATIONS, Application};
-use parts::part::Part;
+use parts::part::{AsRanking, Part};
 use parts::ranking::Ranking;
 use parts::refusal::{Cause, WriteRefusal};
 use std::cmp::Reverse;
@@ -47,7 +47,7 @@ fn score_from(value: u32) -> Result<i16, Cause>
     Ok(value as i16 - 1000)
 }
 
-impl Part for Scores {
+impl Part<AsRanking> for Scores {
     // the score of each application
     type Settings = [i16; APPLICATIONS];
 

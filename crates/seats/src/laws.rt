@@ -3,11 +3,11 @@
 ghost use Rattle.seats.specs.Laws.{SeatBidsAreAssignments};
 
 use crate::seat_bids::SeatBids;
-use parts::part::Part;
+use parts::part::{AsRule, Part};
 use parts::rule::Rule;
 
 // A set is independent exactly when there is an assignment of different allowed places to its members.
 #[tactic(auto, using(matroid::proofs::Assignments::assignable_by_assignment))]
 pub fn seat_bids_are_assignments()
-    ensures { SeatBidsAreAssignments ⟦<SeatBids as Part>⟧.settings ⟦<SeatBids as Rule>⟧.independent }
+    ensures { SeatBidsAreAssignments ⟦<SeatBids as Part<AsRule>>⟧.settings ⟦<SeatBids as Rule>⟧.independent }
 {}

@@ -12,7 +12,7 @@ use super::places::Places;
 use super::seating::{Search, Seats};
 use parts::marks::Marks;
 use parts::numbers::{APPLICATIONS, Application};
-use parts::part::Part;
+use parts::part::{AsRule, Part};
 use parts::refusal::WriteRefusal;
 use parts::rule::Rule;
 
@@ -56,7 +56,7 @@ impl SeatBids {
     }
 }
 
-impl Part for SeatBids {
+impl Part<AsRule> for SeatBids {
     // the mask of each application
     type Settings = [Places; APPLICATIONS];
 

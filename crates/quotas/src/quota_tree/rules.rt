@@ -8,11 +8,11 @@ use super::QuotaTree;
 use super::quotas::Quotas;
 use parts::marks::Marks;
 use parts::numbers::Application;
-use parts::part::Part;
+use parts::part::{AsRule, Part};
 use parts::refusal::WriteRefusal;
 use parts::rule::Rule;
 
-impl Part for QuotaTree {
+impl Part<AsRule> for QuotaTree {
     type Settings = Quotas;
 
     ghost settings = { λ tree. tree.quotas };
